@@ -53,10 +53,12 @@ impl Reason {
             Reason::TableSize => "no instruction, or a table over its limit",
             Reason::DeclaredWidth => "a declared width is not 1 to 64",
             Reason::AddressOrder => "the address is not above the one before",
-            Reason::Unresolved => "a span or a variable that is not there, or a read in a condition",
+            Reason::Unresolved =>
+                "a span or a variable that is not there, or a read in a condition",
             Reason::ItemCount => "an item is missing, over 32 are held, or not one is left",
             Reason::RuleBroken => "a rule of width, size or range is broken",
-            Reason::BadTarget => "a target or the entry is absent, or enters a block past its number 0",
+            Reason::BadTarget =>
+                "a target or the entry is absent, or enters a block past its number 0",
             Reason::BadPresets => "over 256 presets, or one byte preset twice",
             Reason::TargetDenied => "a fixed target or the entry may not be executed",
             Reason::NoSuchVariable => "no such variable",

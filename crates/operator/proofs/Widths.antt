@@ -38,19 +38,19 @@ below-multiple k P W z h =
     let b : r < W = mod-below k W z in
     elim (cases-lt q P) [
       | inl l ↦
-        let d = P - suc q in
-        let e : P ≡ d + suc q = omega arith in
-        let f : P * W ≡ d * W + suc q * W = ap (λ x. x * W) e ∙ add-mul d (suc q) W in
-        let g : suc q * W ≡ W + q * W = ap (λ x. x * W) {x = suc q} {y = 1 + q} (omega arith) ∙ add-mul 1 q W ∙ ap (λ x. x + q * W) (one-mul W) in
-        let t : P * W - suc k ≡ (W - suc r) + d * W = omega arith in
-        let u : W - suc r < W = omega arith in
-        let v : W - suc r ≡ W - 1 - r = omega arith in
-        ap (λ x. x % W) t ∙ add-mul-mod-self-right (W - suc r) d W ∙ mod-eq-of-lt u ∙ v
+          let d = P - suc q in
+          let e : P ≡ d + suc q = omega arith in
+          let f : P * W ≡ d * W + suc q * W = ap (λ x. x * W) e ∙ add-mul d (suc q) W in
+          let g : suc q * W ≡ W + q * W = ap (λ x. x * W) {x = suc q} {y = 1 + q} (omega arith) ∙ add-mul 1 q W ∙ ap (λ x. x + q * W) (one-mul W) in
+          let t : P * W - suc k ≡ (W - suc r) + d * W = omega arith in
+          let u : W - suc r < W = omega arith in
+          let v : W - suc r ≡ W - 1 - r = omega arith in
+          ap (λ x. x % W) t ∙ add-mul-mod-self-right (W - suc r) d W ∙ mod-eq-of-lt u ∙ v
       | inr l ↦
-        let d = q - P in
-        let e : q ≡ d + P = omega arith in
-        let f : q * W ≡ d * W + P * W = ap (λ x. x * W) e ∙ add-mul d P W in
-        absurd (omega arith)
+          let d = q - P in
+          let e : q ≡ d + P = omega arith in
+          let f : q * W ≡ d * W + P * W = ap (λ x. x * W) e ∙ add-mul d P W in
+          absurd (omega arith)
     ]
 
 -- a difference that wrapped at 64 bits
@@ -59,21 +59,21 @@ cut-difference m n w h l =
     let p : 2 ^ (64 - w) * 2 ^ w ≡ 2 ^ 64 = whole w h in
     elim (cases-lt m n) [
       | inl a ↦
-        let k = n - suc m in
-        let e : m + (2 ^ 64 - n) ≡ 2 ^ (64 - w) * 2 ^ w - suc k = omega arith in
-        let i : pos m -ℤ pos n ≡ negsuc k = omega (arith, ints) in
-        cut (m + (2 ^ 64 - n)) w h
-        ∙ ap (λ x. x % 2 ^ w) e
-        ∙ below-multiple k (2 ^ (64 - w)) (2 ^ w) (pow-pos w) (omega arith)
-        ∙ ap (wrap w) (sym i)
+          let k = n - suc m in
+          let e : m + (2 ^ 64 - n) ≡ 2 ^ (64 - w) * 2 ^ w - suc k = omega arith in
+          let i : pos m -ℤ pos n ≡ negsuc k = omega (arith, ints) in
+          cut (m + (2 ^ 64 - n)) w h
+          ∙ ap (λ x. x % 2 ^ w) e
+          ∙ below-multiple k (2 ^ (64 - w)) (2 ^ w) (pow-pos w) (omega arith)
+          ∙ ap (wrap w) (sym i)
       | inr a ↦
-        let k = m - n in
-        let e : m + (2 ^ 64 - n) ≡ k + 2 ^ (64 - w) * 2 ^ w = omega arith in
-        let i : pos m -ℤ pos n ≡ pos k = omega (arith, ints) in
-        cut (m + (2 ^ 64 - n)) w h
-        ∙ ap (λ x. x % 2 ^ w) e
-        ∙ add-mul-mod-self-right k (2 ^ (64 - w)) (2 ^ w)
-        ∙ ap (wrap w) (sym i)
+          let k = m - n in
+          let e : m + (2 ^ 64 - n) ≡ k + 2 ^ (64 - w) * 2 ^ w = omega arith in
+          let i : pos m -ℤ pos n ≡ pos k = omega (arith, ints) in
+          cut (m + (2 ^ 64 - n)) w h
+          ∙ ap (λ x. x % 2 ^ w) e
+          ∙ add-mul-mod-self-right k (2 ^ (64 - w)) (2 ^ w)
+          ∙ ap (wrap w) (sym i)
     ]
 
 pub cut-negative : (n w : ℕ) → w ≤ 64 → n ≤ 2 ^ 64 → (0 + (2 ^ 64 - n)) % 2 ^ 64 % 2 ^ w ≡ wrap w (negℤ (pos n))

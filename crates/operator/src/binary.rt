@@ -5,9 +5,9 @@ ghost use Rattle.std.specs.declared.result.Result.the-variants.{Ok};
 ghost use Rattle.value.specs.Rows.{cst, part, undefined};
 ghost use Rattle.value.specs.Outcome.{outcome};
 ghost use Rattle.operator.specs.Rules.{ordered, holds, divided, divides, result-width, result, by-regions, by-rules, size-of, inside, within, applied};
-use answer::faults::Fault;
 use crate::ops::*;
 use crate::words;
+use answer::faults::Fault;
 use value::rows::*;
 use value::values::ADDRESS_WIDTH;
 use value::values::Value;
@@ -96,9 +96,18 @@ fn by_regions(op: BinaryOp, width: u8, g: Region, m: u64, h: Region, n: u64) -> 
             Value::from_bits(result_width(op, width), result_bits(op, width, m, n))
         }
         (BinaryOp::Compare(_), _, _) if g == h => Value::from_bits(1, result_bits(op, width, m, n)),
-        (BinaryOp::Add, _, _) if h == Region::Cst => Ok(Value::from_offset(g, result_bits(op, width, m, n))),
-        (BinaryOp::Add, _, _) if g == Region::Cst => Ok(Value::from_offset(h, result_bits(op, width, m, n))),
-        (BinaryOp::Sub, _, _) if h == Region::Cst => Ok(Value::from_offset(g, result_bits(op, width, m, n))),
+        (BinaryOp::Add, _, _) if h == Region::Cst => Ok(Value::from_offset(
+            g,
+            result_bits(op, width, m, n),
+        )),
+        (BinaryOp::Add, _, _) if g == Region::Cst => Ok(Value::from_offset(
+            h,
+            result_bits(op, width, m, n),
+        )),
+        (BinaryOp::Sub, _, _) if h == Region::Cst => Ok(Value::from_offset(
+            g,
+            result_bits(op, width, m, n),
+        )),
         (BinaryOp::Sub, _, _) if g == h => Value::from_bits(width, result_bits(op, width, m, n)),
         (BinaryOp::Compare(Comparison::Equal), _, _) => Value::from_bits(1, 0),
         (BinaryOp::Compare(Comparison::NotEqual), _, _) => Value::from_bits(1, 1),
@@ -138,14 +147,7 @@ fn by_rules(op: BinaryOp, left: Value, right: Value) -> Result<Value, Fault>
     } else if width != right.width() {
         Err(Fault::NoExactValue)
     } else {
-        by_regions(
-            op,
-            width,
-            a.region,
-            left.number(),
-            b.region,
-            right.number(),
-        )
+        by_regions(op, width, a.region, left.number(), b.region, right.number())
     }
 }
 
@@ -180,7 +182,12 @@ fn bounded(regions: &[RegionRecord], v: Value) -> Result<Value, Fault>
 }
 
 // What an operator of two operands answers, with the malloc regions of the run.
-pub fn apply(op: BinaryOp, left: Value, right: Value, regions: &[RegionRecord]) -> Result<Value, Fault>
+pub fn apply(
+    op: BinaryOp,
+    left: Value,
+    right: Value,
+    regions: &[RegionRecord],
+) -> Result<Value, Fault>
     ensures { λ r. ⌜ outcome r ≡ applied (now (regions .entry)) op (left .row) (right .row) ⌝ }
 {
     let v = by_rules(op, left, right)?;

@@ -5,9 +5,9 @@ ghost use Rattle.value.specs.Rows.{no-width, undefined};
 ghost use Rattle.value.specs.Outcome.{outcome};
 ghost use Rattle.operator.specs.Words.{wrap};
 ghost use Rattle.operator.specs.Bits.{inverted, meant, extended, restricted, continues, concatenated};
-use answer::faults::Fault;
 use crate::ops::Extension;
 use crate::words;
+use answer::faults::Fault;
 use value::rows::*;
 use value::values::Value;
 use value::values::WIDEST;
@@ -43,7 +43,10 @@ pub fn extend(how: Extension, v: Value, width: u8) -> Result<Value, Fault>
     match row.region {
         _ if width == 0 || width > WIDEST => Err(Fault::NoExactValue),
         _ if !row.defined => Value::undefined(width),
-        Region::Cst if v.width() < width => Value::from_bits(width, filled(how, v.width(), v.number())),
+        Region::Cst if v.width() < width => Value::from_bits(
+            width,
+            filled(how, v.width(), v.number()),
+        ),
         _ => Err(Fault::NoExactValue),
     }
 }
@@ -65,8 +68,7 @@ pub fn restrict(v: Value, low: u8, high: u8) -> Result<Value, Fault>
             low: row.low + low,
             high: row.low + high,
             ..row
-        })
-        .ok_or(Fault::NoExactValue),
+        }).ok_or(Fault::NoExactValue),
     }
 }
 
@@ -97,8 +99,13 @@ pub fn concatenate(left: Value, right: Value) -> Result<Value, Fault>
     match (a.region, b.region) {
         _ if u + v > WIDEST => Err(Fault::NoExactValue),
         _ if !a.defined || !b.defined => Value::undefined(u + v),
-        (Region::Cst, Region::Cst) => Value::from_bits(u + v, join(u, left.number(), v, right.number())),
-        _ if do_continue(a, b) => Value::from_row(Row { high: b.high, ..a }).ok_or(Fault::NoExactValue),
+        (Region::Cst, Region::Cst) => Value::from_bits(
+            u + v,
+            join(u, left.number(), v, right.number()),
+        ),
+        _ if do_continue(a, b) => Value::from_row(Row { high: b.high, ..a }).ok_or(
+            Fault::NoExactValue,
+        ),
         _ => Err(Fault::NoExactValue),
     }
 }

@@ -30,11 +30,7 @@ fn with_sign(width: u8, negative: bool, n: u64) -> u64
     requires { ⌜ width ≤ 64 ⌝ }
     ensures { λ r. ⌜ r % 2 ^ width ≡ wrap width (cond negative (negℤ (pos n)) (pos n)) ⌝ }
 {
-    if negative {
-        0u64.wrapping_sub(n)
-    } else {
-        n
-    }
+    if negative { 0u64.wrapping_sub(n) } else { n }
 }
 
 pub(crate) fn signed_quotient(width: u8, m: u64, n: u64) -> u64
@@ -42,7 +38,11 @@ pub(crate) fn signed_quotient(width: u8, m: u64, n: u64) -> u64
     ensures { λ r. ⌜ r % 2 ^ width ≡ wrap width (quotZ (signed width m) (signed width n)) ⌝ }
 {
     let quotient = magnitude(width, m) / magnitude(width, n);
-    with_sign(width, is_negative(width, m) != is_negative(width, n), quotient)
+    with_sign(
+        width,
+        is_negative(width, m) != is_negative(width, n),
+        quotient,
+    )
 }
 
 pub(crate) fn signed_remainder(width: u8, m: u64, n: u64) -> u64

@@ -3,9 +3,9 @@ ghost use Prim.Native.Nat.{ℕ, _%_, _^_, _<_, _≤_};
 ghost use Rattle.std.specs.declared.option.Option.the-variants.{Some};
 ghost use Rattle.value.specs.Rows.{undefined-of, number-of, offset-in, no-width};
 ghost use Rattle.value.specs.Outcome.{outcome};
-use answer::faults::Fault;
 use crate::rows::*;
 use crate::values::*;
+use answer::faults::Fault;
 
 fn is_no_width(width: u8) -> bool
     ensures { λ r. ⌜ r ≡ no-width width ⌝ }

@@ -1,0 +1,6 @@
+mod Facts
+mod Cuts
+mod Offsets
+mod Totals
+mod Parts
+mod Quotes

@@ -1,9 +1,10 @@
 ghost use mathlib.Core.Path.{_≡_};
 ghost use Rattle.answer.specs.Numbers.{fault-number, layer-number};
+use std::error::Error;
 use std::fmt;
 
 // What can go wrong while a model runs.
-#[derive(Clone, Copy, PartialEq, Eq)]
+#[derive(Clone, Copy, PartialEq, Eq, Debug)]
 pub enum Fault {
     UndefinedUsed,
     NoExactValue,
@@ -68,6 +69,8 @@ pub impl fmt::Display for Fault as FaultDisplay {
         write!(f, "fault {number}: {meaning}")
     }
 }
+
+pub impl Error for Fault as FaultError {}
 
 // The part of a step in which a fault arose: an operator, an access to memory, or the rest.
 #[derive(Clone, Copy, PartialEq, Eq)]

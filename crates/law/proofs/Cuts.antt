@@ -10,7 +10,6 @@ use Rattle.std.specs.declared.result.Result.the-variants.{Ok, Err}
 use Rattle.std.proofs.shelf.Bits.{field-of, shr-shr}
 use Rattle.std.proofs.shelf.Tests.{cases-bool}
 use Rattle.std.proofs.shelf.Ways.{tells}
-use Rattle.answer.specs.declared.faults.Fault.{Fault}
 use Rattle.value.specs.declared.rows.Region.the-variants.{Cst}
 use Rattle.value.specs.declared.rows.Row.{Row}
 use Rattle.value.specs.Rows.{Outcome, cst, width, sound, plain, undefined-row}
@@ -97,20 +96,6 @@ rejoins r k s p q =
       | inr d ↦ undefineds r k s p q d
       | inl d ↦ elim (cases-bool (cst (r .region))) [ inl g ↦ numbers r k s p q g d | inr g ↦ pieces r k s p q g ]
     ]
-
--- the pieces that two restrictions gave, joined; neither can fail
-module _ (r x : Row) (k w : ℕ) (s : sound r ≡ true) (p : 0 < k) (q : k < width r) (e : w ≡ width r) (a : _≡_ {A = Outcome} (Ok x) (restricted r 0 (k - 1))) where
-  pub joined-again : (y : Row) → _≡_ {A = Outcome} (Ok y) (restricted r k (w - 1)) → concatenated x y ≡ Ok r
-  joined-again y b = sym (rejoin r x y k _ (sym a) (ap (λ n. restricted r k (n - 1)) (sym e) ∙ sym b) refl) ∙ rejoins r k s p q
-
-  pub never-fails : (f : Fault) (o : Outcome) → _≡_ {A = Outcome} (Err f) (restricted r k (w - 1)) → o ≡ Ok r
-  never-fails f o b =
-      let t : rejoined r k ≡ Err f =
-      ap (λ t. and-then t (λ low. and-then (restricted r k (width r - 1)) (λ high. concatenated low high))) (sym a)
-      ∙ ap (λ t. and-then t (λ high. concatenated x high)) (ap (λ n. restricted r k (n - 1)) (sym e) ∙ sym b) in
-      let u : rejoined r k ≡ Ok r = rejoins r k s p q in
-      let z : _≡_ {A = ℕ} 0 1 = cc in
-      absurd (omega arith)
 
 -- bits p to q of the bits i to j of a number
 cut-twice : (n i p w v : ℕ) → p + v ≤ w → n / 2 ^ i % 2 ^ w / 2 ^ p % 2 ^ v ≡ n / 2 ^ (i + p) % 2 ^ v

@@ -1,6 +1,6 @@
-mod Facts
-mod Cuts
-mod Offsets
-mod Totals
-mod Parts
-mod Quotes
+pub mod Facts
+pub mod Cuts
+pub mod Offsets
+pub mod Totals
+pub mod Parts
+pub mod Quotes

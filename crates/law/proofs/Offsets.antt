@@ -37,7 +37,7 @@ wrap-up w m n h l =
     let i : pos m -ℤ pos n ≡ pos (m - n) = omega (arith, ints) in
     ap (wrap w) i ∙ mod-eq-of-lt (omega arith)
 
-wrap-down : (w m n : ℕ) → m < n → n ≤ 2 ^ w → wrap w (pos m -ℤ pos n) ≡ 2 ^ w + m - n
+pub wrap-down : (w m n : ℕ) → m < n → n ≤ 2 ^ w → wrap w (pos m -ℤ pos n) ≡ 2 ^ w + m - n
 wrap-down w m n h l =
     let k = n - suc m in
     let i : pos m -ℤ pos n ≡ negsuc k = omega (arith, ints) in

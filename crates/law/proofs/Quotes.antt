@@ -64,10 +64,10 @@ minus-reduced w zero l = minus-zero w ∙ sym (ap (λ x. x % 2 ^ w) (sub-zero (2
 minus-reduced w (suc n) l = minus-is w (suc n) (omega arith) l ∙ sym (mod-eq-of-lt (omega arith))
 
 -- what bits mean, with the sign bit clear and set
-read-clear : (w n : ℕ) → n < 2 ^ (w - 1) → signed w n ≡ pos n
+pub read-clear : (w n : ℕ) → n < 2 ^ (w - 1) → signed w n ≡ pos n
 read-clear w n h = simp (lt-ltb n (2 ^ (w - 1)) h)
 
-read-set : (w n b : ℕ) → 2 ^ (w - 1) ≤ n → suc b + n ≡ 2 ^ w → signed w n ≡ negsuc b
+pub read-set : (w n b : ℕ) → 2 ^ (w - 1) ≤ n → suc b + n ≡ 2 ^ w → signed w n ≡ negsuc b
 read-set w n b h k = simp (le-ltb n (2 ^ (w - 1)) h) (omega (arith, ints))
 
 -- a remainder is smaller in size than the divisor d, and has the dividend's sign or is 0
@@ -184,7 +184,7 @@ numbers Complement w m n a h k z =
 divided-rules : (d : Division) (a b : Row) → Number a → Number b → width a ≡ width b → 0 < b .number → by-rules (Divide d) a b ≡ Ok (plain Cst (width a) (wrap (width a) (divided d (width a) (a .number) (b .number))))
 divided-rules d a b p q e z = grind (arith, tells)
 
-fits : (a : Row) → Number a → a .number < 2 ^ width a
+pub fits : (a : Row) → Number a → a .number < 2 ^ width a
 fits a p =
     let f = in-cst a (p .0) (p .1) in
     let w : a .high + 1 ≡ width a = omega arith in

@@ -39,7 +39,7 @@ compared-rules k a b h =
     let e = one-bit (holds k (width a) (a .number) (b .number)) in
     grind (arith, tells)
 
-compared : (rs : List RegionRecord) (k : Comparison) (a b : Row) → Comparable a b → applied rs (Compare k) a b ≡ Ok (bit (holds k (width a) (a .number) (b .number)))
+pub compared : (rs : List RegionRecord) (k : Comparison) (a b : Row) → Comparable a b → applied rs (Compare k) a b ≡ Ok (bit (holds k (width a) (a .number) (b .number)))
 compared rs k a b h = ap (within rs) (compared-rules k a b h)
 
 -- two bits that are one

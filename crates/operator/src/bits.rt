@@ -12,6 +12,14 @@ use value::rows::*;
 use value::values::Value;
 use value::values::WIDEST;
 
+// Every bit of 64 turned, of which the low `width` count.
+fn inverse(width: u8, n: u64) -> u64
+    requires { ⌜ width ≤ 64 ⌝ ∗ ⌜ n < 2 ^ width ⌝ }
+    ensures { λ r. ⌜ r % 2 ^ width ≡ 2 ^ width - 1 - n ⌝ }
+{
+    !n
+}
+
 // Every bit turned.
 pub fn not(v: Value) -> Result<Value, Fault>
     ensures { λ r. ⌜ outcome r ≡ inverted (v .row) ⌝ }
@@ -19,7 +27,7 @@ pub fn not(v: Value) -> Result<Value, Fault>
     let row = v.row();
     match row.region {
         _ if !row.defined => Value::undefined(v.width()),
-        Region::Cst => Value::from_bits(v.width(), !v.number()),
+        Region::Cst => Value::from_bits(v.width(), inverse(v.width(), v.number())),
         _ => Err(Fault::NoExactValue),
     }
 }

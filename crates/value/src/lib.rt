@@ -3,3 +3,4 @@ pub mod makes;
 pub mod rows;
 pub mod text;
 pub mod values;
+pub mod views;

@@ -1,6 +1,5 @@
 ghost use mathlib.Core.Path.{_≡_};
 ghost use Prim.Native.Nat.{ℕ, _%_, _^_, _<_, _≤_};
-ghost use Rattle.std.specs.declared.option.Option.the-variants.{Some};
 ghost use Rattle.value.specs.Rows.{undefined-of, number-of, offset-in, no-width};
 ghost use Rattle.value.specs.Outcome.{outcome};
 use crate::rows::*;
@@ -70,11 +69,4 @@ impl Value {
         };
         Value::from_row(row).unwrap()
     }
-}
-
-// The row of a value, and the value of that row again.
-pub fn restored(v: Value) -> Option<Value>
-    ensures { λ r. ⌜ r ≡ Some v ⌝ }
-{
-    Value::from_row(v.row())
 }

@@ -1,5 +1,7 @@
 use crate::rows::*;
 use crate::values::*;
+use answer::faults::Fault;
+use answer::faults::FaultDisplay;
 use std::fmt;
 
 pub impl fmt::Display for Region as RegionDisplay {
@@ -33,5 +35,18 @@ pub impl fmt::Display for Value as ValueDisplay {
         let low = row.low;
         let high = row.high;
         write!(f, "{{{low},{high}}}")
+    }
+}
+
+// What an operator answered: the value, or the fault with its number and meaning.
+#[derive(Clone, Copy)]
+pub struct Answer(pub Result<Value, Fault>);
+
+pub impl fmt::Display for Answer as AnswerDisplay {
+    fn fmt<W: fmt::Write>(&self, f: &mut fmt::Formatter<W>) -> fmt::Result {
+        match self.0 {
+            Ok(v) => write!(f, "{v}"),
+            Err(fault) => write!(f, "{fault}"),
+        }
     }
 }

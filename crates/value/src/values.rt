@@ -1,8 +1,8 @@
 ghost use mathlib.Core.Path.{_≡_};
 ghost use mathlib.Core.Bool.{true, false};
-ghost use Prim.Native.Nat.{ℕ, _^_, _<_, _≤_};
 ghost use Rattle.std.specs.Options.{Cases, isSome};
-ghost use Rattle.value.specs.Rows.{sound, width, part};
+ghost use Rattle.std.specs.declared.option.Option.the-variants.{Some};
+ghost use Rattle.value.specs.Rows.{sound};
 use crate::rows::*;
 
 // The bits of an address, and so of every value outside `Cst`.
@@ -39,10 +39,11 @@ fn is_sound(row: Row) -> bool
 }
 
 impl Value {
-    // The value of a row, where there is one.
+    // The value of a row, where there is one; of the row of a value, that value.
     pub fn from_row(row: Row) -> Option<Value>
         ensures value { λ r. ⌜ Cases r (sound row ≡ false) (λ v. (sound row ≡ true) × (v .row ≡ row)) ⌝ }
         ensures test { λ r. ⌜ isSome r ≡ sound row ⌝ }
+        ensures back { λ r. ⌜ ((v : Value) → v .row ≡ row → r ≡ Some v) ⌝ }
     {
         if is_sound(row) {
             Some(Value { row })
@@ -56,20 +57,5 @@ impl Value {
         ensures sound { λ r. ⌜ sound r ≡ true ⌝ }
     {
         self.row
-    }
-
-    pub fn width(&self) -> u8
-        ensures value { λ r. ⌜ r ≡ width (now (self .entry) .row) ⌝ }
-        ensures range { λ r. ⌜ 1 ≤ r ⌝ ∗ ⌜ r ≤ 64 ⌝ }
-    {
-        self.row.high - self.row.low + 1
-    }
-
-    // The number or the offset; of a part, the offset of the pointer that it was cut from.
-    pub fn number(&self) -> u64
-        ensures value { λ r. ⌜ r ≡ now (self .entry) .row .number ⌝ }
-        ensures below { λ r. ⌜ (part (now (self .entry) .row) ≡ false → r < 2 ^ width (now (self .entry) .row)) ⌝ }
-    {
-        self.row.number
     }
 }

@@ -1,0 +1,5 @@
+use Rattle.pickup.proofs.Sizes.{reaches}
+use Rattle.pickup.proofs.reaches.Needs as need
+
+pub returns : need.returns
+returns c = reaches

@@ -1,0 +1,7 @@
+mod report;
+
+use std::error::AnyError;
+
+fn main(rt: LibcRuntime) -> Result<(), AnyError> {
+    rt.report(report::run(&rt))
+}

@@ -1,15 +1,14 @@
 -- What a sound row says of its fields.
-use mathlib.Core.Path.{_≡_, refl, ap, sym}
-use mathlib.Core.Bool.{Bool, true, false}
-use Prim.Native.Nat.{ℕ, _+_, _-_, _^_, _<_, _≤_}
+use mathlib.Core.Path.{_≡_, refl, ap}
+use mathlib.Core.Bool.{true, false}
+use Prim.Native.Nat.{_+_, _^_, _<_, _≤_}
 use native.Mathlib.Omega.{arith}
 use Rattle.std.proofs.shelf.Tests.{eqb-true, false≢true}
 use Rattle.std.proofs.shelf.Ways.{tells}
 use Rattle.value.specs.declared.rows.Region.{Region}
 use Rattle.value.specs.declared.rows.Region.the-variants.{Cst, Stack, Malloc}
 use Rattle.value.specs.declared.rows.Row.{Row}
-use Rattle.value.specs.Rows.{rank, cst, same, width, sound, plain, undefined-row}
-use Rattle.operator.specs.Bits.{piece}
+use Rattle.value.specs.Rows.{rank, cst, same, sound}
 
 pub is-cst : (g : Region) → cst g ≡ true → g ≡ Cst
 is-cst Cst h = refl

@@ -1,29 +1,27 @@
 -- Pointers plus and minus numbers and pointers.
 use mathlib.Core.Path.{_≡_, refl, ap, sym, subst, _∙_}
-use mathlib.Core.Bool.{Bool, true, false, not, cond}
+use mathlib.Core.Bool.{true, false, not}
 use mathlib.Core.List.{List}
 use mathlib.Core.Logic.{inl, inr}
-use Prim.Native.Nat.{ℕ, suc, _+_, _-_, _*_, _%_, _^_, _<_, _≤_}
+use Prim.Native.Nat.{ℕ, suc, _+_, _-_, _%_, _^_, _<_, _≤_}
 use native.Mathlib.Nat.{add-mul-mod-self-right, mod-eq-of-lt, one-mul}
 use native.Mathlib.Omega.{arith}
 use lib.Dec.{eqb}
-use lib.IntN.{ℤ, pos, negsuc, _-ℤ_}
-use lib.Pow.{pow-pos}
+use lib.IntN.{pos, negsuc, _-ℤ_}
 use Rattle.std.specs.declared.result.Result.the-variants.{Ok, Err}
-use Rattle.std.proofs.shelf.Bits.{mod-below}
 use Rattle.std.proofs.shelf.Signed.{ints}
-use Rattle.std.proofs.shelf.Tests.{cases-bool, cases-eq, cases-lt, cond-true, cond-false, not-from-true}
+use Rattle.std.proofs.shelf.Tests.{cases-bool, cases-lt, cond-false, not-from-true}
 use Rattle.std.proofs.shelf.Ways.{tells}
 use Rattle.answer.specs.declared.faults.Fault.the-variants.{NoExactValue}
 use Rattle.value.specs.declared.rows.Region.{Region}
 use Rattle.value.specs.declared.rows.Region.the-variants.{Cst}
 use Rattle.value.specs.declared.rows.Row.{Row}
 use Rattle.value.specs.declared.rows.RegionRecord.{RegionRecord}
-use Rattle.value.specs.Rows.{Outcome, cst, same, part, width, sound, plain}
+use Rattle.value.specs.Rows.{Outcome, cst, same, width, sound, plain}
 use Rattle.operator.specs.declared.ops.BinaryOp.{BinaryOp}
 use Rattle.operator.specs.declared.ops.BinaryOp.the-variants.{Add, Sub}
 use Rattle.operator.specs.Words.{wrap}
-use Rattle.operator.specs.Rules.{by-rules, within, applied, inside}
+use Rattle.operator.specs.Rules.{by-rules, within, inside}
 use Rattle.law.specs.Pointers.{Number, Pointer, Returns, Leads}
 use Rattle.law.proofs.Facts.{is-same, rowwise, in-region, in-cst}
 

@@ -2,13 +2,11 @@
 use mathlib.Core.Path.{_≡_, refl, ap, sym, subst, _∙_}
 use mathlib.Core.Bool.{true, false, cond}
 use mathlib.Core.Logic.{inl, inr}
-use Prim.Native.Nat.{ℕ, _+_, _-_, _^_, _<_, _≤_}
+use Prim.Native.Nat.{_+_, _-_, _^_, _<_}
 use native.Mathlib.Omega.{arith}
 use Rattle.std.proofs.shelf.Bits.{pow-pos}
 use Rattle.std.proofs.shelf.Tests.{cases-bool, both-ways, cond-true, cond-false}
 use Rattle.std.proofs.shelf.Ways.{tells}
-use Rattle.value.specs.declared.rows.Region.{Region}
-use Rattle.value.specs.declared.rows.Region.the-variants.{Cst}
 use Rattle.value.specs.declared.rows.Row.{Row}
 use Rattle.value.specs.Rows.{cst, part, width, sound}
 use Rattle.law.specs.Described.{Described, number-in, bits-of, nothing-of, Exists, row-of, One-row}

@@ -1,32 +1,29 @@
 -- Quotient and remainder of numbers of w bits.
 use mathlib.Core.Path.{_≡_, refl, ap, sym, subst, _∙_}
-use mathlib.Core.Bool.{Bool, true, false}
-use mathlib.Core.List.{List}
 use mathlib.Core.Logic.{_⊎_, inl, inr}
 use Prim.Native.Nat.{ℕ, zero, suc, _+_, _-_, _*_, _/_, _%_, _^_, _<_, _≤_}
-use native.Mathlib.Nat.{add-mul-mod-self-right, mod-eq-of-lt, mod-self, div-le-self, mod-le, mul-comm, mul-assoc, mul-add, add-mul, zero-add, sub-zero}
+use native.Mathlib.Nat.{add-mul-mod-self-right, mod-eq-of-lt, mod-self, div-le-self, mod-le, mul-comm, mul-assoc, mul-add, add-mul, sub-zero}
 use native.Mathlib.Omega.{arith}
-use lib.IntN.{ℤ, pos, negsuc, negℤ, natAbs, _-ℤ_}
+use lib.IntN.{ℤ, pos, negsuc, negℤ, natAbs}
 use lib.Pow.{pow-add, pow-pos}
 use lib.Signed.{nonNeg, quotZ, remZ}
-use Rattle.std.specs.declared.result.Result.the-variants.{Ok, Err}
+use Rattle.std.specs.declared.result.Result.the-variants.{Ok}
 use Rattle.std.proofs.shelf.Bits.{div-add-mod', mod-below}
 use Rattle.std.proofs.shelf.Signed.{ints}
 use Rattle.std.proofs.shelf.Tests.{cases-lt, lt-ltb, le-ltb}
 use Rattle.std.proofs.shelf.Ways.{tells}
 use Rattle.value.specs.declared.rows.Region.the-variants.{Cst}
 use Rattle.value.specs.declared.rows.Row.{Row}
-use Rattle.value.specs.declared.rows.RegionRecord.{RegionRecord}
 use Rattle.value.specs.Rows.{width, plain}
 use Rattle.operator.specs.declared.ops.BinaryOp.the-variants.{Divide}
 use Rattle.operator.specs.declared.ops.Division.{Division}
 use Rattle.operator.specs.Words.{signed, wrap}
-use Rattle.operator.specs.Rules.{divided, by-rules, within, applied}
+use Rattle.operator.specs.Rules.{divided, by-rules, within}
 use Rattle.law.specs.declared.readings.Reading.{Reading}
 use Rattle.law.specs.declared.readings.Reading.the-variants.{Plain, Complement}
 use Rattle.law.specs.Pointers.{Number}
 use Rattle.law.specs.Readings.{quotient-of, remainder-of}
-use Rattle.law.specs.Quotients.{read, Divided, Divides}
+use Rattle.law.specs.Quotients.{Divided, Divides}
 use Rattle.law.proofs.Facts.{in-cst}
 
 -- m from m plus or minus multiples of W

@@ -1,12 +1,11 @@
 -- The comparisons are total orders.
 use mathlib.Core.Path.{_≡_, refl, ap, sym, subst, _∙_}
-use mathlib.Core.Bool.{Bool, true, false, not, cond, _&&_}
+use mathlib.Core.Bool.{Bool, true, false, not, cond}
 use mathlib.Core.List.{List}
 use mathlib.Core.Logic.{_⊎_, inl, inr}
-use Prim.Native.Nat.{ℕ, suc, _+_, _-_, _%_, _^_, _<_, _≤_}
+use Prim.Native.Nat.{ℕ, _+_, _-_, _%_, _^_, _<_}
 use native.Mathlib.Omega.{arith}
-use lib.Dec.{ltb, eqb}
-use lib.IntN.{ℤ, pos, negsuc, _-ℤ_}
+use lib.IntN.{ℤ, pos, _-ℤ_}
 use lib.Signed.{ltZ}
 use Rattle.std.specs.declared.result.Result.the-variants.{Ok, Err}
 use Rattle.std.proofs.shelf.Signed.{ints}
@@ -14,10 +13,10 @@ use Rattle.std.proofs.shelf.Tests.{cases-bool, cases-lt, lt-ltb, le-ltb, eqb-tr
 use Rattle.std.proofs.shelf.Ways.{tells}
 use Rattle.value.specs.declared.rows.Row.{Row}
 use Rattle.value.specs.declared.rows.RegionRecord.{RegionRecord}
-use Rattle.value.specs.Rows.{Outcome, rank, cst, same, part, width, sound}
+use Rattle.value.specs.Rows.{Outcome, rank, cst, width}
 use Rattle.operator.specs.declared.ops.BinaryOp.the-variants.{Compare}
 use Rattle.operator.specs.declared.ops.Comparison.{Comparison}
-use Rattle.operator.specs.declared.ops.Comparison.the-variants.{Equal, NotEqual, Unsigned, Signed}
+use Rattle.operator.specs.declared.ops.Comparison.the-variants.{Equal, NotEqual}
 use Rattle.operator.specs.declared.ops.Order.{Order}
 use Rattle.operator.specs.declared.ops.Order.the-variants.{Less, LessOrEqual, GreaterOrEqual, Greater}
 use Rattle.operator.specs.Words.{signed}
@@ -27,7 +26,7 @@ use Rattle.law.specs.declared.readings.Reading.the-variants.{Plain, Complement
 use Rattle.law.specs.Readings.{compared-by}
 use Rattle.law.specs.Quotients.{read}
 use Rattle.law.specs.Orders.{Whole, Comparable, Says, Total-order, Orders}
-use Rattle.law.proofs.Facts.{is-cst, is-same, rowwise, in-region, in-cst}
+use Rattle.law.proofs.Facts.{is-same, rowwise, in-region, in-cst}
 
 one-bit : (b : Bool) → cond b 1 0 % 2 ^ 1 ≡ cond b 1 0
 one-bit true = refl

@@ -3,7 +3,7 @@ use mathlib.Core.Path.{_≡_}
 use mathlib.Core.Bool.{Bool, true, false, not}
 use mathlib.Core.List.{List}
 use mathlib.Core.Logic.{_⊎_}
-use Rattle.std.specs.declared.result.Result.the-variants.{Ok, Err}
+use Rattle.std.specs.declared.result.Result.the-variants.{Ok}
 use Rattle.value.specs.declared.rows.Row.{Row}
 use Rattle.value.specs.declared.rows.RegionRecord.{RegionRecord}
 use Rattle.value.specs.Rows.{sound, same, part, width}

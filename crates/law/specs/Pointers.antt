@@ -2,7 +2,7 @@
 use mathlib.Core.Path.{_≡_}
 use mathlib.Core.Bool.{true, false}
 use mathlib.Core.List.{List}
-use Rattle.std.specs.declared.result.Result.the-variants.{Ok, Err}
+use Rattle.std.specs.declared.result.Result.the-variants.{Ok}
 use Rattle.value.specs.declared.rows.Row.{Row}
 use Rattle.value.specs.declared.rows.RegionRecord.{RegionRecord}
 use Rattle.value.specs.Rows.{sound, cst, same, part, width}

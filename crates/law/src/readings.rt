@@ -10,7 +10,7 @@ pub enum Reading {
 }
 
 impl Reading {
-    pub fn quotient(&self) -> Division
+    pub(crate) fn quotient(&self) -> Division
         ensures { λ r. ⌜ r ≡ quotient-of (now (self .entry)) ⌝ }
     {
         match self {
@@ -19,7 +19,7 @@ impl Reading {
         }
     }
 
-    pub fn remainder(&self) -> Division
+    pub(crate) fn remainder(&self) -> Division
         ensures { λ r. ⌜ r ≡ remainder-of (now (self .entry)) ⌝ }
     {
         match self {
@@ -28,7 +28,7 @@ impl Reading {
         }
     }
 
-    pub fn compared_by(&self, order: Order) -> Comparison
+    pub(crate) fn compared_by(&self, order: Order) -> Comparison
         ensures { λ r. ⌜ r ≡ compared-by (now (self .entry)) order ⌝ }
     {
         match self {

@@ -132,21 +132,20 @@ result op w m n = wrap (result-width op w) (exact op w m n)
 abbrev pub bit : Bool → Row
 bit b = plain Cst 1 (cond b 1 0)
 
--- two numbers
-abbrev pub numbers : BinaryOp → ℕ → ℕ → ℕ → Outcome
-numbers op w m n =
-    divides op && eqb n 0 gives Err ZeroDivisor else
-    Ok (plain Cst (result-width op w) (result op w m n))
+-- the result as a plain value of a region
+abbrev pub result-in : Region → BinaryOp → ℕ → ℕ → ℕ → Row
+result-in g op w m n = plain g (result-width op w) (result op w m n)
 
 -- rules 3 to 8, of two plain values of width w: m in region g, and n in region h
 abbrev pub by-regions : BinaryOp → ℕ → Region → ℕ → Region → ℕ → Outcome
 by-regions op w g m h n =
-    cst g && cst h gives numbers op w m n else
-    compares op && same g h gives Ok (plain Cst 1 (result op w m n)) else
-    is-sum op && cst h gives Ok (plain g w (result op w m n)) else
-    is-sum op && cst g gives Ok (plain h w (result op w m n)) else
-    is-difference op && cst h gives Ok (plain g w (result op w m n)) else
-    is-difference op && same g h gives Ok (plain Cst w (result op w m n)) else
+    cst g && cst h && divides op && eqb n 0 gives Err ZeroDivisor else
+    cst g && cst h gives Ok (result-in Cst op w m n) else
+    compares op && same g h gives Ok (result-in Cst op w m n) else
+    is-sum op && cst h gives Ok (result-in g op w m n) else
+    is-sum op && cst g gives Ok (result-in h op w m n) else
+    is-difference op && cst h gives Ok (result-in g op w m n) else
+    is-difference op && same g h gives Ok (result-in Cst op w m n) else
     is-equal op gives Ok (bit false) else
     is-unequal op gives Ok (bit true) else
     Err NoExactValue

@@ -1,10 +1,10 @@
 ghost use mathlib.Core.Path.{_≡_};
 ghost use mathlib.Core.Bool.{true, false, _||_};
-ghost use Prim.Native.Nat.{ℕ, _%_, _^_, _<_, _≤_};
+ghost use Prim.Native.Nat.{_%_, _^_, _<_, _≤_};
 ghost use Rattle.std.specs.declared.result.Result.the-variants.{Ok};
 ghost use Rattle.value.specs.Rows.{cst, part, undefined};
 ghost use Rattle.value.specs.Outcome.{outcome};
-ghost use Rattle.operator.specs.Rules.{ordered, holds, divided, divides, result-width, result, by-regions, by-rules, size-of, inside, within, applied};
+ghost use Rattle.operator.specs.Rules.{ordered, holds, divides, result-width, result, result-in, by-regions, by-rules, size-of, inside, within, applied};
 use crate::ops::*;
 use crate::words;
 use answer::faults::Fault;
@@ -83,6 +83,20 @@ fn result_bits(op: BinaryOp, width: u8, m: u64, n: u64) -> u64
     }
 }
 
+// The result as a plain value of a region.
+fn result_in(region: Region, op: BinaryOp, width: u8, m: u64, n: u64) -> Result<Value, Fault>
+    requires wide { ⌜ 1 ≤ width ⌝ ∗ ⌜ width ≤ 64 ⌝ ∗ ⌜ m < 2 ^ width ⌝ ∗ ⌜ n < 2 ^ width ⌝ }
+    requires divisor { ⌜ (divides op ≡ true → 0 < n) ⌝ }
+    requires pointer { ⌜ (cst region ≡ false → result-width op width ≡ 32) ⌝ }
+    ensures { λ r. ⌜ outcome r ≡ Ok (result-in region op width m n) ⌝ }
+{
+    let bits = result_bits(op, width, m, n);
+    match region {
+        Region::Cst => Value::from_bits(result_width(op, width), bits),
+        _ => Ok(Value::from_offset(region, bits)),
+    }
+}
+
 // Rules 3 to 8, on plain operands: `m` in region `g`, and `n` in region `h`.
 fn by_regions(op: BinaryOp, width: u8, g: Region, m: u64, h: Region, n: u64) -> Result<Value, Fault>
     requires wide { ⌜ 1 ≤ width ⌝ ∗ ⌜ width ≤ 64 ⌝ ∗ ⌜ m < 2 ^ width ⌝ ∗ ⌜ n < 2 ^ width ⌝ }
@@ -92,23 +106,12 @@ fn by_regions(op: BinaryOp, width: u8, g: Region, m: u64, h: Region, n: u64) -> 
 {
     match (op, g, h) {
         (BinaryOp::Divide(_), Region::Cst, Region::Cst) if n == 0 => Err(Fault::ZeroDivisor),
-        (_, Region::Cst, Region::Cst) => {
-            Value::from_bits(result_width(op, width), result_bits(op, width, m, n))
-        }
-        (BinaryOp::Compare(_), _, _) if g == h => Value::from_bits(1, result_bits(op, width, m, n)),
-        (BinaryOp::Add, _, _) if h == Region::Cst => Ok(Value::from_offset(
-            g,
-            result_bits(op, width, m, n),
-        )),
-        (BinaryOp::Add, _, _) if g == Region::Cst => Ok(Value::from_offset(
-            h,
-            result_bits(op, width, m, n),
-        )),
-        (BinaryOp::Sub, _, _) if h == Region::Cst => Ok(Value::from_offset(
-            g,
-            result_bits(op, width, m, n),
-        )),
-        (BinaryOp::Sub, _, _) if g == h => Value::from_bits(width, result_bits(op, width, m, n)),
+        (_, Region::Cst, Region::Cst) => result_in(Region::Cst, op, width, m, n),
+        (BinaryOp::Compare(_), _, _) if g == h => result_in(Region::Cst, op, width, m, n),
+        (BinaryOp::Add, _, _) if h == Region::Cst => result_in(g, op, width, m, n),
+        (BinaryOp::Add, _, _) if g == Region::Cst => result_in(h, op, width, m, n),
+        (BinaryOp::Sub, _, _) if h == Region::Cst => result_in(g, op, width, m, n),
+        (BinaryOp::Sub, _, _) if g == h => result_in(Region::Cst, op, width, m, n),
         (BinaryOp::Compare(Comparison::Equal), _, _) => Value::from_bits(1, 0),
         (BinaryOp::Compare(Comparison::NotEqual), _, _) => Value::from_bits(1, 1),
         _ => Err(Fault::NoExactValue),

@@ -1,7 +1,7 @@
 ghost use mathlib.Core.Path.{_≡_};
-ghost use mathlib.Core.Bool.{true, false, _||_};
+ghost use mathlib.Core.Bool.{_||_};
 ghost use Prim.Native.Nat.{ℕ, _+_, _-_, _*_, _%_, _^_, _<_, _≤_};
-ghost use Rattle.value.specs.Rows.{no-width, undefined};
+ghost use Rattle.value.specs.Rows.{undefined};
 ghost use Rattle.value.specs.Outcome.{outcome};
 ghost use Rattle.operator.specs.Words.{wrap};
 ghost use Rattle.operator.specs.Bits.{inverted, meant, extended, restricted, continues, concatenated};

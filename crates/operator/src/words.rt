@@ -1,6 +1,6 @@
 ghost use mathlib.Core.Path.{_≡_};
 ghost use mathlib.Core.Bool.{cond, not};
-ghost use Prim.Native.Nat.{ℕ, _+_, _-_, _*_, _%_, _^_, _<_, _≤_};
+ghost use Prim.Native.Nat.{_+_, _-_, _%_, _^_, _<_, _≤_};
 ghost use lib.IntN.{pos, negℤ, natAbs};
 ghost use lib.Signed.{quotZ, remZ, nonNeg, ltZ};
 ghost use Rattle.operator.specs.Words.{signed, wrap};

@@ -1,23 +1,21 @@
 -- The magnitude of a number, and when it reaches a setting.
 use mathlib.Core.Path.{_≡_, refl, ap, sym, _∙_}
-use mathlib.Core.Bool.{Bool, true, false, not, cond}
+use mathlib.Core.Bool.{Bool, true, false, not}
 use mathlib.Core.List.{[]}
 use mathlib.Core.Logic.{inl, inr}
-use Prim.Native.Nat.{ℕ, suc, _+_, _-_, _%_, _^_, _<_, _≤_}
+use Prim.Native.Nat.{suc, _+_, _-_, _%_, _^_, _≤_}
 use native.Mathlib.Nat.{mod-eq-of-lt}
 use native.Mathlib.Omega.{arith}
-use lib.Dec.{leb, ltb, eqb}
-use lib.IntN.{ℤ, pos, negsuc, natAbs, _-ℤ_}
+use lib.Dec.{ltb}
+use lib.IntN.{pos, negsuc, natAbs, _-ℤ_}
 use lib.Pow.{pow-pos}
 use lib.Signed.{ltZ}
-use Rattle.std.specs.declared.result.Result.{Result}
-use Rattle.std.specs.declared.result.Result.the-variants.{Ok, Err}
+use Rattle.std.specs.declared.result.Result.the-variants.{Ok}
 use Rattle.std.proofs.shelf.Tests.{cases-lt}
 use Rattle.std.proofs.shelf.Ways.{tells}
-use Rattle.answer.specs.declared.faults.Fault.{Fault}
 use Rattle.value.specs.declared.rows.Region.the-variants.{Cst}
 use Rattle.value.specs.declared.rows.Row.{Row}
-use Rattle.value.specs.Rows.{Outcome, width, cst, same, part, sound, plain, number-of}
+use Rattle.value.specs.Rows.{width, plain}
 use Rattle.operator.specs.declared.ops.BinaryOp.the-variants.{Sub, Compare}
 use Rattle.operator.specs.declared.ops.Comparison.the-variants.{Unsigned, Signed}
 use Rattle.operator.specs.declared.ops.Order.the-variants.{Less, GreaterOrEqual}
@@ -25,12 +23,12 @@ use Rattle.operator.specs.Words.{signed, wrap}
 use Rattle.operator.specs.Rules.{applied, by-rules, within, bit}
 use Rattle.law.specs.Pieces.{and-then}
 use Rattle.law.specs.Pointers.{Number}
-use Rattle.law.specs.Orders.{Whole, Comparable}
+use Rattle.law.specs.Orders.{Comparable}
 use Rattle.law.proofs.Facts.{is-cst, rowwise, in-cst}
 use Rattle.law.proofs.Offsets.{wrap-down}
 use Rattle.law.proofs.Quotes.{read-clear, read-set, fits}
 use Rattle.law.proofs.Totals.{compared}
-use Rattle.pickup.specs.Samples.{asked, decision, zero-of, is-negative, turned-if, magnitude-of, is-picked-up, Measures, Reaches}
+use Rattle.pickup.specs.Samples.{asked, decision, zero-of, is-negative, turned-if, magnitude-of, Measures, Reaches}
 
 -- a bit decides by itself
 bit-decides : (t : Bool) → decision (bit t) ≡ Ok t

@@ -1,5 +1,5 @@
 ghost use mathlib.Core.Path.{_≡_};
-ghost use Prim.Native.Nat.{ℕ, _%_, _^_, _<_, _≤_};
+ghost use Prim.Native.Nat.{_%_, _^_, _<_, _≤_};
 ghost use Rattle.value.specs.Rows.{undefined-of, number-of, offset-in, no-width};
 ghost use Rattle.value.specs.Outcome.{outcome};
 use crate::rows::*;

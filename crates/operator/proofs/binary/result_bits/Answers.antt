@@ -1,8 +1,5 @@
-use mathlib.Core.Path.{_≡_, sym, ap, _∙_}
 use native.Mathlib.Omega.{arith}
-use Prim.Native.Nat.{_+_, _-_, _*_, _%_, _^_}
-use Rattle.operator.specs.Rules.{result-width, result}
-use Rattle.operator.specs.declared.ops.BinaryOp.{BinaryOp}
+use Prim.Native.Nat.{_*_}
 use Rattle.operator.proofs.Widths.{cut, cut-difference, at-op}
 use Rattle.operator.proofs.binary.result_bits.Needs as need
 

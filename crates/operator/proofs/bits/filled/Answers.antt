@@ -1,8 +1,8 @@
-use mathlib.Core.Path.{_≡_, sym, ap, _∙_}
+use mathlib.Core.Path.{sym, ap, _∙_}
 use Prim.Native.Nat.{_-_, _+_, _%_, _^_}
 use native.Mathlib.Omega.{arith}
 use Rattle.std.proofs.shelf.Bits.{one-shl, pow-below}
-use Rattle.operator.specs.Words.{wrap, signed}
+use Rattle.operator.specs.Words.{wrap}
 use Rattle.operator.specs.Bits.{meant}
 use Rattle.operator.proofs.Widths.{cut-difference, signed-negative}
 use Rattle.operator.proofs.bits.filled.Needs as need

@@ -1,11 +1,7 @@
-use mathlib.Core.Path.{_≡_, sym, ap, _∙_}
+use mathlib.Core.Path.{sym}
 use native.Mathlib.Omega.{arith}
-use lib.IntN.{pos, natAbs, _-ℤ_}
-use Prim.Native.Nat.{_^_}
-use Rattle.std.proofs.shelf.Signed.{ints}
 use Rattle.value.proofs.Masks.{mask-is}
-use Rattle.operator.specs.Words.{signed}
-use Rattle.operator.proofs.Widths.{signed-negative, magnitude-negative}
+use Rattle.operator.proofs.Widths.{magnitude-negative}
 use Rattle.operator.proofs.words.magnitude.Needs as need
 
 pub sub-result-then-is-negative : need.sub-result-then-is-negative

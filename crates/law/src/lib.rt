@@ -1,4 +1,3 @@
-// What holds of the values and operators, each law on a function that carries it out.
-pub mod laws;
+// What holds of the values and operators.
 pub mod readings;
 pub mod theorems;

@@ -7,7 +7,6 @@ ghost use Rattle.value.specs.declared.rows.Region.the-variants.{Malloc};
 ghost use Rattle.pickup.specs.Samples.{sample-in, magnitude-of};
 use answer::faults::Fault;
 use answer::faults::FaultError;
-use law::laws;
 use law::readings::Reading;
 use operator::binary::apply;
 use operator::bits::*;
@@ -131,7 +130,7 @@ fn show_decision(rt: &LibcRuntime, walk: Walk) -> Result<(), AnyError> {
     let needed = number(NEEDED)?;
     let sum = walk.sum;
     let count = number(6)?;
-    let (mean, rest) = laws::divide(Reading::Plain, sum, count)?;
+    let (mean, rest) = lawful::divide(Reading::Plain, sum, count)?;
     let verdict = if pickup::picked_up(reached, needed)? {
         "the relay must pick up"
     } else {
@@ -152,9 +151,9 @@ fn show_decision(rt: &LibcRuntime, walk: Walk) -> Result<(), AnyError> {
 fn show_end(rt: &LibcRuntime, walk: Walk) -> Result<(), AnyError> {
     let start = window_at(0);
     let last = walk.pointer;
-    let length = laws::distance(start, last, &REGIONS)?;
+    let length = lawful::distance(start, last, &REGIONS)?;
     let past = Answer(pickup::next(last, &REGIONS));
-    let back = laws::there_and_back(start, length, &REGIONS)?;
+    let back = lawful::there_and_back(start, length, &REGIONS)?;
     println!(rt, "  from {start} to {last} the walk went {length} bytes")?;
     println!(rt, "  {start} + {length} - {length} is {back}")?;
     println!(rt, "  one word further: {past}")?;
@@ -164,9 +163,9 @@ fn show_end(rt: &LibcRuntime, walk: Walk) -> Result<(), AnyError> {
 fn show_pieces(rt: &LibcRuntime, pointer: Value) -> Result<(), AnyError> {
     let low = restrict(pointer, 0, 7)?;
     let high = restrict(pointer, 8, 31)?;
-    let joined = laws::cut_and_join(pointer, 8)?;
+    let joined = lawful::cut_and_join(pointer, 8)?;
     let turned = Answer(concatenate(high, low));
-    let byte = laws::restrict_twice(pointer, 8, 23, 0, 7)?;
+    let byte = lawful::restrict_twice(pointer, 8, 23, 0, 7)?;
     println!(rt, "  {pointer} is kept as {low} and {high}")?;
     println!(rt, "  joined low to high: {joined}")?;
     println!(rt, "  joined high to low: {turned}")?;

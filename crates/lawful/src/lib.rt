@@ -1,3 +1,4 @@
+// Operations that a law holds of, each with the law on its contract.
 ghost use mathlib.Core.Path.{_≡_};
 ghost use mathlib.Core.List.{[]};
 ghost use mathlib.Core.Logic.{_⊎_};
@@ -7,15 +8,15 @@ ghost use Rattle.value.specs.Rows.{sound};
 ghost use Rattle.value.specs.Outcome.{outcome};
 ghost use Rattle.operator.specs.Bits.{restricted};
 ghost use Rattle.operator.specs.Rules.{applied};
 ghost use Rattle.law.specs.Described.{One-row};
 ghost use Rattle.law.specs.Pieces.{and-then, rejoined, Rejoins, Narrows};
 ghost use Rattle.law.specs.Pointers.{Returns, Leads};
 ghost use Rattle.law.specs.Readings.{quotient-of, remainder-of, compared-by};
 ghost use Rattle.law.specs.Quotients.{Divides};
 ghost use Rattle.law.specs.Orders.{Orders};
-use crate::readings::*;
-use crate::theorems;
 use answer::faults::Fault;
+use law::readings::Reading;
+use law::theorems;
 use operator::binary::apply;
 use operator::bits::*;
 use operator::ops::*;
@@ -82,15 +83,42 @@ pub fn distance(from: Value, to: Value, regions: &[RegionRecord]) -> Result<Valu
     apply(BinaryOp::Sub, to, from, regions)
 }
 
+fn quotient(reading: Reading) -> Division
+    ensures { λ r. ⌜ r ≡ quotient-of reading ⌝ }
+{
+    match reading {
+        Reading::Plain => Division::UnsignedQuotient,
+        Reading::Complement => Division::SignedQuotient,
+    }
+}
+
+fn remainder(reading: Reading) -> Division
+    ensures { λ r. ⌜ r ≡ remainder-of reading ⌝ }
+{
+    match reading {
+        Reading::Plain => Division::UnsignedRemainder,
+        Reading::Complement => Division::SignedRemainder,
+    }
+}
+
+fn compared_by(reading: Reading, order: Order) -> Comparison
+    ensures { λ r. ⌜ r ≡ compared-by reading order ⌝ }
+{
+    match reading {
+        Reading::Plain => Comparison::Unsigned(order),
+        Reading::Complement => Comparison::Signed(order),
+    }
+}
+
 // Quotient and remainder: by a divisor that is not 0 they give the dividend back.
 pub fn divide(reading: Reading, a: Value, b: Value) -> Result<(Value, Value), Fault>
     ensures value { λ r. ⌜ elim r [ Ok p ↦ (applied [] (BinaryOp.Divide (quotient-of reading)) (a .row) (b .row) ≡ Ok (p .0 .row)) × (applied [] (BinaryOp.Divide (remainder-of reading)) (a .row) (b .row) ≡ Ok (p .1 .row)) | Err e ↦ (applied [] (BinaryOp.Divide (quotient-of reading)) (a .row) (b .row) ≡ Err e) ⊎ (applied [] (BinaryOp.Divide (remainder-of reading)) (a .row) (b .row) ≡ Err e) ] ⌝ }
     ensures law { λ _. ⌜ Divides ⌝ }
 {
     theorems::divides();
-    let quotient = apply(BinaryOp::Divide(reading.quotient()), a, b, &[])?;
-    let remainder = apply(BinaryOp::Divide(reading.remainder()), a, b, &[])?;
-    Ok((quotient, remainder))
+    let q = apply(BinaryOp::Divide(quotient(reading)), a, b, &[])?;
+    let r = apply(BinaryOp::Divide(remainder(reading)), a, b, &[])?;
+    Ok((q, r))
 }
 
 // Whether the first is at most the second: a total order.
@@ -105,7 +133,7 @@ pub fn is_at_most(
 {
     theorems::orders();
     apply(
-        BinaryOp::Compare(reading.compared_by(Order::LessOrEqual)),
+        BinaryOp::Compare(compared_by(reading, Order::LessOrEqual)),
         a,
         b,
         regions,

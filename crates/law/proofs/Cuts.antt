@@ -72,13 +72,11 @@ module _ (r : Row) (k : ℕ) (s : sound r ≡ true) (p : 0 < k) (q : k < width r
   numbers : cst (r .region) ≡ true → r .defined ≡ true → rejoined r k ≡ Ok r
   numbers g d =
       let f = in-cst r s g in
-      let w : r .high + 1 ≡ width r = omega arith in
-      let b : r .number < 2 ^ width r = rw (sym w) (f .fits) in
       rejoin r _ _ k _
       (cut-number r 0 (k - 1) k g d (f .ends) (omega arith) (omega arith) (omega arith))
       (cut-number r k (width r - 1) (width r - k) g d (f .ends) (omega arith) (omega arith) (omega arith))
       (join-numbers k (width r - k) _ _ (omega arith) (omega arith) (omega arith))
-      ∙ ap Ok (rowwise _ r (recombined (r .number) k (width r) q b) (sym (is-cst (r .region) g)) (sym d) (sym (f .starts)) (omega arith))
+      ∙ ap Ok (rowwise _ r (recombined (r .number) k (width r) q (f .fits)) (sym (is-cst (r .region) g)) (sym d) (sym (f .starts)) (omega arith))
 
   undefineds : r .defined ≡ false → rejoined r k ≡ Ok r
   undefineds d =

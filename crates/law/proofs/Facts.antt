@@ -1,5 +1,5 @@
 -- What a sound row says of its fields.
-use mathlib.Core.Path.{_≡_, refl, ap}
+use mathlib.Core.Path.{_≡_, refl, ap, subst}
 use mathlib.Core.Bool.{true, false}
 use Prim.Native.Nat.{_+_, _^_, _<_, _≤_}
 use native.Mathlib.Omega.{arith}
@@ -8,7 +8,7 @@ use Rattle.std.proofs.shelf.Ways.{tells}
 use Rattle.value.specs.declared.rows.Region.{Region}
 use Rattle.value.specs.declared.rows.Region.the-variants.{Cst, Stack, Malloc}
 use Rattle.value.specs.declared.rows.Row.{Row}
-use Rattle.value.specs.Rows.{rank, cst, same, sound}
+use Rattle.value.specs.Rows.{rank, cst, same, sound, width}
 
 pub is-cst : (g : Region) → cst g ≡ true → g ≡ Cst
 is-cst Cst h = refl
@@ -53,10 +53,14 @@ in-region r s g =
 pub record In-cst (r : Row) : Type 0 where
   pub starts : r .low ≡ 0
   pub ends : r .high < 64
-  pub fits : r .number < 2 ^ (r .high + 1)
+  pub fits : r .number < 2 ^ width r
 
 pub in-cst : (r : Row) → sound r ≡ true → cst (r .region) ≡ true → In-cst r
-in-cst r s g = record { starts = grind (arith, tells); ends = grind (arith, tells); fits = grind (arith, tells) }
+in-cst r s g =
+    let l : r .low ≡ 0 = grind (arith, tells) in
+    let b : r .number < 2 ^ (r .high + 1) = grind (arith, tells) in
+    let e : r .high + 1 ≡ width r = omega arith in
+    record { starts = l; ends = grind (arith, tells); fits = subst (λ k. r .number < 2 ^ k) e b }
 
 pub undefined-cst : (r : Row) → sound r ≡ true → r .defined ≡ false → cst (r .region) ≡ true
 undefined-cst r s d = grind (arith, tells)

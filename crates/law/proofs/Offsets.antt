@@ -112,10 +112,7 @@ minus-pointer : (g h : Region) (m n : ℕ) → cst g ≡ false → cst h ≡ fal
 minus-pointer g h m n o p e = grind (arith, tells)
 
 number-fits : (n : Row) → Number n → width n ≡ 32 → n .number < 2 ^ 32
-number-fits n h w =
-    let f = in-cst n (h .0) (h .1) in
-    let e : n .high + 1 ≡ 32 = omega arith in
-    subst (λ x. n .number < 2 ^ x) e (f .fits)
+number-fits n h w = subst (λ x. n .number < 2 ^ x) w (in-cst n (h .0) (h .1) .fits)
 
 same-row : (o : Outcome) (a b : Row) → o ≡ Ok a → o ≡ Ok b → a ≡ b
 same-row o a b p q = cc

@@ -35,10 +35,9 @@ of-row r s =
           (nothing-of (width r), (omega arith, omega arith), rowwise _ r (sym (undefined-zero r s d)) (sym (is-cst (r .region) g)) (sym d) (sym (f .starts)) (omega arith))
       | inl d ↦ elim (cases-bool (cst (r .region))) [
         | inl g ↦
-            let f = in-cst r s g in
-            let e : r .high + 1 ≡ width r = omega arith in (
+            let f = in-cst r s g in (
               number-in (r .region) (width r) (r .number),
-              (omega arith, omega arith, subst (λ k. r .number < 2 ^ k) e (f .fits), λ c. absurd (both-ways (cst (r .region)) c g)),
+              (omega arith, omega arith, f .fits, λ c. absurd (both-ways (cst (r .region)) c g)),
               rowwise _ r refl refl (sym d) (sym (f .starts)) (omega arith),
             )
         | inr g ↦

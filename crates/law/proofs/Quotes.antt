@@ -181,18 +181,12 @@ numbers Complement w m n a h k z =
 divided-rules : (d : Division) (a b : Row) → Number a → Number b → width a ≡ width b → 0 < b .number → by-rules (Divide d) a b ≡ Ok (plain Cst (width a) (wrap (width a) (divided d (width a) (a .number) (b .number))))
 divided-rules d a b p q e z = grind (arith, tells)
 
-pub fits : (a : Row) → Number a → a .number < 2 ^ width a
-fits a p =
-    let f = in-cst a (p .0) (p .1) in
-    let w : a .high + 1 ≡ width a = omega arith in
-    subst (λ k. a .number < 2 ^ k) w (f .fits)
-
 pub divides : Divides
 divides reading rs a b p q e z =
-    let k : b .number < 2 ^ width a = subst (λ v. b .number < 2 ^ v) (sym e) (fits b q) in (
+    let k : b .number < 2 ^ width a = subst (λ v. b .number < 2 ^ v) (sym e) (in-cst b (q .0) (q .1) .fits) in (
       plain Cst (width a) (wrap (width a) (divided (quotient-of reading) (width a) (a .number) (b .number))),
       plain Cst (width a) (wrap (width a) (divided (remainder-of reading) (width a) (a .number) (b .number))),
       ap (within rs) (divided-rules (quotient-of reading) a b p q e z),
       ap (within rs) (divided-rules (remainder-of reading) a b p q e z),
-      numbers reading (width a) (a .number) (b .number) (omega arith) (fits a p) k z,
+      numbers reading (width a) (a .number) (b .number) (omega arith) (in-cst a (p .0) (p .1) .fits) k z,
     )

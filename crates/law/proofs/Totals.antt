@@ -3,7 +3,7 @@ use mathlib.Core.Path.{_≡_, refl, ap, sym, subst, _∙_}
 use mathlib.Core.Bool.{Bool, true, false, not, cond}
 use mathlib.Core.List.{List}
 use mathlib.Core.Logic.{_⊎_, inl, inr}
-use Prim.Native.Nat.{ℕ, _+_, _-_, _%_, _^_, _<_}
+use Prim.Native.Nat.{ℕ, _-_, _%_, _^_, _<_}
 use native.Mathlib.Omega.{arith}
 use lib.IntN.{ℤ, pos, _-ℤ_}
 use lib.Signed.{ltZ}
@@ -90,10 +90,7 @@ apart Complement w m n h k e = signed-apart w m n h k e
 fits : (a : Row) → Whole a → a .number < 2 ^ width a
 fits a h =
     elim (cases-bool (cst (a .region))) [
-      | inl g ↦
-          let f = in-cst a (h .0) g in
-          let e : a .high + 1 ≡ width a = omega arith in
-          subst (λ k. a .number < 2 ^ k) e (f .fits)
+      | inl g ↦ in-cst a (h .0) g .fits
       | inr g ↦
           let f = in-region a (h .0) g in
           let e : 32 ≡ width a = grind (arith, tells) in

@@ -26,7 +26,7 @@ use Rattle.law.specs.Pointers.{Number}
 use Rattle.law.specs.Orders.{Comparable}
 use Rattle.law.proofs.Facts.{is-cst, rowwise, in-cst}
 use Rattle.law.proofs.Offsets.{wrap-down}
-use Rattle.law.proofs.Quotes.{read-clear, read-set, fits}
+use Rattle.law.proofs.Quotes.{read-clear, read-set}
 use Rattle.law.proofs.Totals.{compared}
 use Rattle.pickup.specs.Samples.{asked, decision, zero-of, is-negative, turned-if, magnitude-of, Measures, Reaches}
 
@@ -89,7 +89,7 @@ module _ (r : Row) (h : Number r) where
             ∙ ap Ok number-is
             ∙ ap (λ x. Ok (plain Cst w (natAbs x))) (sym e)
         | inr a ↦
-            let l = fits r h in
+            let l = in-cst r (h .0) (h .1) .fits in
             let b = 2 ^ w - suc n in
             let e : signed w n ≡ negsuc b = read-set w n b a (omega arith) in
             let f : 2 ^ w + 0 - n ≡ suc b = omega arith in

@@ -198,7 +198,7 @@ fn show_faults(rt: &LibcRuntime) -> Result<(), AnyError> {
 }
 
 // The pickup decision over one window, from the sample words to the answer.
-pub fn run(rt: &LibcRuntime) -> Result<(), AnyError> {
+pub(crate) fn run(rt: &LibcRuntime) -> Result<(), AnyError> {
     let setting = number(SETTING)?;
     println!(
         rt,

@@ -136,7 +136,8 @@ bit b = plain Cst 1 (cond b 1 0)
 abbrev pub result-in : Region → BinaryOp → ℕ → ℕ → ℕ → Row
 result-in g op w m n = plain g (result-width op w) (result op w m n)
 
--- rules 3 to 8, of two plain values of width w: m in region g, and n in region h
+-- Rules 3 to 8, of two plain values of width w: m in region g, and n in region h. Rules 3, 5, 6 and 7 have two lines
+-- each.
 abbrev pub by-regions : BinaryOp → ℕ → Region → ℕ → Region → ℕ → Outcome
 by-regions op w g m h n =
     cst g && cst h && divides op && eqb n 0 gives Err ZeroDivisor else

@@ -129,7 +129,7 @@ fn show_decision(rt: &LibcRuntime, walk: Walk) -> Result<(), AnyError> {
     let reached = walk.reached;
     let needed = number(NEEDED)?;
     let sum = walk.sum;
-    let count = number(6)?;
+    let count = number(WINDOW.len() as u64)?;
     let (mean, rest) = lawful::divide(Reading::Plain, sum, count)?;
     let verdict = if pickup::picked_up(reached, needed)? {
         "the relay must pick up"

@@ -7,13 +7,11 @@ ghost use Rattle.std.specs.Orderings.{Decides};
 ghost use Rattle.value.specs.Outcome.{outcome};
 ghost use Rattle.vector.specs.Counts.{with-case, Counted};
 ghost use Rattle.vector.specs.Worked.{worked};
-
-mod reading;
-
-use crate::reading::Entry;
-use crate::reading::ReasonDisplay;
-use crate::reading::Unread;
 use answer::faults::Fault;
+use notation::reading;
+use notation::reading::Entry;
+use notation::reading::ReasonDisplay;
+use notation::reading::Unread;
 use std::alloc::AllocError;
 use std::io;
 use std::io::BufRead;

@@ -3,6 +3,8 @@
 #[cfg(test)]
 mod operators;
 #[cfg(test)]
+mod reads;
+#[cfg(test)]
 mod texts;
 #[cfg(test)]
 mod values;

@@ -12,7 +12,7 @@ use Rattle.std.specs.Results.{okPart}
 use Rattle.std.proofs.shelf.Numerals.{afterPlus-none}
 use Rattle.std.proofs.shelf.Patterns.{starts-char}
 use Rattle.std.proofs.shelf.Ways.{not-from-decides}
-use Rattle.cases.proofs.reading.decimal.Needs as need
+use Rattle.notation.proofs.reading.decimal.Needs as need
 
 checked : {T E : Type 0} (r : Result T E) (P : Type 0) (v : T) → Converted r P v → Checked (okPart r) P v
 checked (Ok x) P v h = h

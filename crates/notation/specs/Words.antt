@@ -22,9 +22,9 @@ use Rattle.operator.specs.declared.ops.Extension.{Extension}
 use Rattle.operator.specs.declared.ops.Extension.the-variants.{Zeros, Sign}
 use Rattle.vector.specs.declared.working.Case.{Case}
 use Rattle.vector.specs.declared.working.Case.the-variants.{Binary, Concatenate, Not, Extend, Restrict}
-use Rattle.cases.specs.declared.reading.Entry.{Entry}
-use Rattle.cases.specs.declared.reading.Entry.the-variants.{Nothing, Sizes, Try}
-use Rattle.cases.specs.Texts.{Writes, Span, RowText, ResultText}
+use Rattle.notation.specs.declared.reading.Entry.{Entry}
+use Rattle.notation.specs.declared.reading.Entry.the-variants.{Nothing, Sizes, Try}
+use Rattle.notation.specs.Texts.{Writes, Span, RowText, ResultText}
 
 abbrev pub division-word : Division → List ℕ
 division-word UnsignedQuotient = codes "/u"

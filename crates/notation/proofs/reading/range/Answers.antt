@@ -1,8 +1,8 @@
 use lib.Dec.{lit<}
 use Rattle.std.specs.declared.option.Option.the-variants.{Some}
 use Rattle.std.proofs.shelf.Patterns.{strip-suffix-char}
-use Rattle.cases.proofs.Cuts.{writes, cut, span}
-use Rattle.cases.proofs.reading.range.Needs as need
+use Rattle.notation.proofs.Cuts.{writes, cut, span}
+use Rattle.notation.proofs.reading.range.Needs as need
 
 pub returns : need.returns
 returns c =

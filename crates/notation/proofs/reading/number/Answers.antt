@@ -1,6 +1,6 @@
 use lib.Dec.{lit<}
-use Rattle.cases.proofs.Cuts.{writes, cut, number-text}
-use Rattle.cases.proofs.reading.number.Needs as need
+use Rattle.notation.proofs.Cuts.{writes, cut, number-text}
+use Rattle.notation.proofs.reading.number.Needs as need
 
 pub returns : need.returns
 returns c =

@@ -2,9 +2,9 @@ use mathlib.Core.Path.{refl}
 use mathlib.Core.Logic.{inr}
 use native.Mathlib.Omega.{arith}
 use lib.Dec.{lit<}
-use Rattle.cases.proofs.Cuts.{writes, cut}
-use Rattle.cases.proofs.reading.pointer.Needs as need
-use Rattle.cases.proofs.reading.pointer.Needs.{else-low-eq0·by·then-low-eq0·else-high, else-low-eq0·by·else-low-eq0}
+use Rattle.notation.proofs.Cuts.{writes, cut}
+use Rattle.notation.proofs.reading.pointer.Needs as need
+use Rattle.notation.proofs.reading.pointer.Needs.{else-low-eq0·by·then-low-eq0·else-high, else-low-eq0·by·else-low-eq0}
 
 pub returns : need.returns
 returns c =

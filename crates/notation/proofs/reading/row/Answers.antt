@@ -3,9 +3,9 @@ use mathlib.Core.Logic.{inl, inr}
 use lib.Dec.{lit<}
 use Rattle.std.specs.declared.option.Option.the-variants.{Some}
 use Rattle.std.proofs.shelf.Patterns.{strip-prefix-char}
-use Rattle.cases.specs.Texts.{RowText}
-use Rattle.cases.proofs.Cuts.{writes, cut, weaker, headed}
-use Rattle.cases.proofs.reading.row.Needs as need
+use Rattle.notation.specs.Texts.{RowText}
+use Rattle.notation.proofs.Cuts.{writes, cut, weaker, headed}
+use Rattle.notation.proofs.reading.row.Needs as need
 
 pub returns-in-C : need.returns-in-C
 returns-in-C c =

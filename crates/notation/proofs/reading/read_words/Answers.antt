@@ -7,10 +7,10 @@ use borrow.Author.Needs.{needs}
 use denote.Ref.{RefT}
 use lib.Chars.{codes}
 use lib.ListN.{length, getD}
-use Rattle.cases.specs.declared.reading.Entry.{Entry}
-use Rattle.cases.specs.declared.reading.Entry.the-variants.{Nothing, Sizes, Try}
-use Rattle.cases.specs.Words.{TriesOne, TriesTwo, OfWords}
-use Rattle.cases.proofs.reading.read_words.Needs as need
+use Rattle.notation.specs.declared.reading.Entry.{Entry}
+use Rattle.notation.specs.declared.reading.Entry.the-variants.{Nothing, Sizes, Try}
+use Rattle.notation.specs.Words.{TriesOne, TriesTwo, OfWords}
+use Rattle.notation.proofs.reading.read_words.Needs as need
 
 at-one : (op v m x : RefT (List ℕ)) (e : Entry) → m .now ≡ codes "=" → TriesOne (op .now) (v .now) (x .now) e → OfWords (op ∷ v ∷ m ∷ x ∷ []) e
 at-one op v m x Nothing mark h = absurd h

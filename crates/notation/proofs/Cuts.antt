@@ -15,7 +15,7 @@ use Rattle.value.specs.declared.rows.Region.the-variants.{Cst}
 use Rattle.value.specs.declared.rows.Row.{Row}
 use Rattle.value.specs.declared.values.Value.{Value}
 use Rattle.value.specs.Rows.{sound}
-use Rattle.cases.specs.Texts.{Writes, Span, NumberText}
+use Rattle.notation.specs.Texts.{Writes, Span, NumberText}
 
 pub writes : (ds : List ℕ) (n k : ℕ) → Checked (Some n) (Numeral 10 ds × (value 10 ds < k)) (value 10 ds) → Writes ds n
 writes ds n k h = (h .0 .0, h .1)

@@ -11,9 +11,9 @@ ghost use Rattle.std.specs.Reads.{Numeral, value as read-value};
 ghost use Rattle.std.specs.Slices.{found};
 ghost use Rattle.std.specs.Vec.{made};
 ghost use Rattle.answer.specs.Numbers.{fault-number};
-ghost use Rattle.cases.specs.declared.reading.Unread.the-variants.{Malformed, NoMemory};
-ghost use Rattle.cases.specs.Texts.{Span, NumberText, UndefinedText, PointerText, RowText, ResultText};
-ghost use Rattle.cases.specs.Words.{operator-word, OfTwo, OfOne, Fresh, TriesOne, TriesTwo, OfWords, Few};
+ghost use Rattle.notation.specs.declared.reading.Unread.the-variants.{Malformed, NoMemory};
+ghost use Rattle.notation.specs.Texts.{Span, NumberText, UndefinedText, PointerText, RowText, ResultText};
+ghost use Rattle.notation.specs.Words.{operator-word, OfTwo, OfOne, Fresh, TriesOne, TriesTwo, OfWords, Few};
 use answer::faults::Fault;
 use operator::ops::*;
 use std::alloc::AllocError;
@@ -364,94 +364,4 @@ pub fn read(heap: Global, line: &[u8]) -> Result<Entry, Unread>
     let text = text.strip_suffix('\r').unwrap_or(text);
     let words = words(heap, text)?;
     read_words(heap, words.as_slice())
-}
-
-#[cfg(test)]
-mod tests {
-    use super::*;
-    use std::test::*;
-    use value::rows::RowPartialEq;
-
-    fn plain_row(region: Region, number: u64, high: u8) -> Option<Row> {
-        Some(Row {
-            number,
-            region,
-            defined: true,
-            low: 0,
-            high,
-        })
-    }
-
-    #[test]
-    fn values_at_their_limits() -> Result<(), Fail> {
-        check(row("C:1:1") == plain_row(Region::Cst, 1, 0))?;
-        check(row("C:64:18446744073709551615") == plain_row(Region::Cst, u64::MAX, 63))?;
-        check(row("S:4294967295") == plain_row(Region::Stack, 4294967295, 31))?;
-        check(row("M255:0{0,30}") == plain_row(Region::Malloc(255), 0, 30))?;
-        let texts =
-            "C:1:1 C:64:18446744073709551615 C:008:0255 U:1 U:64 S:4294967295 S:8{31,31} M0:0 M255:0{0,30}";
-        for text in texts.split(' ') {
-            check(value(text).is_some())?;
-        }
-        Ok(())
-    }
-
-    #[test]
-    fn texts_that_name_no_value() -> Result<(), Fail> {
-        let numbers =
-            "C:8:256 C:0:0 C:65:1 C:256:1 C:8:+1 C:8:-1 C:8:1_0 C:64:18446744073709551616 C:8:é U:0 U:65";
-        let pointers =
-            "S:4294967296 S:8{0,31} S:8{7,6} S:8{0,32} S:8{0,7 S:8{0} S:8{0,7}} S:{0,7} M:0 M256:0";
-        let others = " C C:8 C:8: C::1 C:8:1:1 U:8:0 S: X:8 c:8:1";
-        for text in numbers
-            .split(' ')
-            .chain(pointers.split(' '))
-            .chain(others.split(' ')) {
-            check(value(text).is_none())?;
-        }
-        Ok(())
-    }
-
-    #[test]
-    fn results_are_values_or_faults() -> Result<(), Fail> {
-        check(result("!1").is_some() && result("!13").is_some() && result("U:1").is_some())?;
-        for text in "! !0 !14 !257 !+1 1 !C:8:1".split(' ') {
-            check(result(text).is_none())?;
-        }
-        Ok(())
-    }
-
-    #[test]
-    fn operators_of_one_operand() -> Result<(), Fail> {
-        let Some(v) = value("C:8:1") else {
-            return Err(Fail::new("no value"));
-        };
-        for word in "not {0,255} extu:0 exts:255".split(' ') {
-            check(case_of_one(word, v).is_some())?;
-        }
-        for word in "+ :: extu extu: exts:256 {0,256} {0} {0,1 0,1} Not".split(' ') {
-            check(case_of_one(word, v).is_none())?;
-        }
-        Ok(())
-    }
-
-    #[test]
-    fn lines(rt: LibcRuntime) -> Result<(), Fail> {
-        let heap = rt.alloc();
-        check(matches!(read(heap, b" \t\r\n"), Ok(Entry::Nothing)))?;
-        check(matches!(
-            read(heap, b"\t=  C:8:1 \tC:8:1 = C:1:1 \r\n"),
-            Ok(Entry::Try(..))
-        ))?;
-        check(matches!(read(heap, b"sizes"), Ok(Entry::Sizes(_))))?;
-        check(read(heap, b"not C:8:1 = \xff").is_err())?;
-        check(regions(heap, &["65535"; 64]).is_ok() && regions(heap, &["1"; 65]).is_err())?;
-        let sizes = "sizes 0|sizes 65536|sizes 1 x";
-        let cases =
-            "= C:8:1 = C:1:1|not C:8:1 C:8:1 = C:8:1|+ C:8:1 C:8:1 C:8:2|not C:8:1 = C:8:254 =|= = = =|=|\0|\rnot";
-        for line in sizes.split('|').chain(cases.split('|')) {
-            check(read(heap, line.as_bytes()).is_err())?;
-        }
-        Ok(())
-    }
 }

@@ -1,0 +1,2 @@
+// How cases from outside are written, and read.
+pub mod reading;

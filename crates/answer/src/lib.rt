@@ -1,4 +1,6 @@
 // The closed lists of answers that every layer gives: faults of a run, refusals of a call, and where a machine stands.
+#![tactic(auto)]
+
 pub mod faults;
 pub mod refusals;
 pub mod standings;

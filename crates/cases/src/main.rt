@@ -1,4 +1,6 @@
 // Works out cases that stand on standard input, one to a line, and compares each with the result that the line expects.
+#![tactic(auto)]
+
 ghost use Rattle.std.specs.Prelude.{◌≡◌, ◌≤◌, Bool, vec_len, Decides};
 ghost use Rattle.value.specs.Outcome.{outcome};
 ghost use Rattle.vector.specs.Counts.{with_case, Counted};

@@ -1,4 +1,6 @@
 // Expressions: the nodes of a table, and the one walk over them that serves every arithmetic.
+#![tactic(auto)]
+
 pub mod arithmetic;
 pub mod heights;
 pub mod nodes;

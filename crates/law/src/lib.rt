@@ -1,3 +1,5 @@
 // What holds of the values and operators.
+#![tactic(auto)]
+
 pub mod readings;
 pub mod theorems;

@@ -1,4 +1,6 @@
 // Operations that a law holds of, each with the law on its contract.
+#![tactic(auto)]
+
 ghost use Rattle.std.specs.Prelude.{◌≡◌, ◌<◌, ◌⊎◌, [], Ok, Err};
 ghost use Rattle.value.specs.Rows.{sound};
 ghost use Rattle.value.specs.Outcome.{outcome};

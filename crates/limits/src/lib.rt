@@ -1,5 +1,7 @@
 // Tests of the values and operators at the narrowest and the widest, and one past each limit. What they expect is worked
 // out by hand from the rules.
+#![tactic(auto)]
+
 #[cfg(test)]
 mod operators;
 #[cfg(test)]

@@ -1,4 +1,6 @@
 // The check of a model's tables, and the passed model.
+#![tactic(auto)]
+
 mod depths;
 pub mod judging;
 pub mod models;

@@ -1,3 +1,5 @@
+#![tactic(auto)]
+
 ghost use Rattle.std.specs.Prelude.{◌≡◌};
 ghost use Rattle.value.specs.Outcome.{outcome};
 ghost use Rattle.pickup.specs.Samples.{decision, sample_in, is_negative, magnitude_of, is_picked_up, Measures, Reaches, next_word};

@@ -1,6 +1,8 @@
 // The trip routine of a definite-time overcurrent relay, as the tables of a model. It draws a sample word, takes the
 // magnitude of the sample in its low 12 bits, counts in memory how many samples in a row reach the pickup setting, and
 // closes the contact at the fifth by a write.
+#![tactic(auto)]
+
 use answer::standings::Address;
 use expression::nodes::*;
 use instruction::tables::*;

@@ -1,3 +1,5 @@
+#![tactic(auto)]
+
 mod report;
 
 fn main(rt: HostRuntime) -> anyhow::Result<()> {

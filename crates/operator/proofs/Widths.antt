@@ -9,7 +9,7 @@ use Rattle.std.proofs.lemmas.Nat.{div-add-mod', mod_below, or_shifted, shl_whole
 use Rattle.std.proofs.lemmas.Int.{ints}
 use Rattle.std.proofs.lemmas.Bool.{cases_lt, false≢true}
 use Rattle.operator.specs.Words.{signed, wrap}
-use Rattle.operator.specs.Rules.{result_width, result}
+use Rattle.operator.specs.Rules.{result_width, result_of}
 use Rattle.operator.specs.declared.ops.BinaryOp.{BinaryOp}
 
 pub cut : (n w : ℕ) → w ≤ 64 → n % 2 ^ 64 % 2 ^ w ≡ n % 2 ^ w
@@ -105,5 +105,5 @@ magnitude_negative w n l h =
     ap nat_abs (signed_negative w n h ∙ i) ∙ omega arith
 
 -- bits whose result is shown at the operator that was matched
-pub at_op : (x w m n : ℕ) (op o : BinaryOp) → op ≡ o → x % 2 ^ result_width o w ≡ result o w m n → x % 2 ^ result_width op w ≡ result op w m n
-at_op x w m n op o e h = subst (λ p. x % 2 ^ result_width p w ≡ result p w m n) (sym e) h
+pub at_op : (x w m n : ℕ) (op o : BinaryOp) → op ≡ o → x % 2 ^ result_width o w ≡ result_of o w m n → x % 2 ^ result_width op w ≡ result_of op w m n
+at_op x w m n op o e h = subst (λ p. x % 2 ^ result_width p w ≡ result_of p w m n) (sym e) h

@@ -118,15 +118,15 @@ abbrev pub result_width : BinaryOp → ℕ → ℕ
 result_width op w = cond (compares op) 1 w
 
 -- the exact result, modulo 2 to its width
-abbrev pub result : BinaryOp → ℕ → ℕ → ℕ → ℕ
-result op w m n = wrap (result_width op w) (exact op w m n)
+abbrev pub result_of : BinaryOp → ℕ → ℕ → ℕ → ℕ
+result_of op w m n = wrap (result_width op w) (exact op w m n)
 
 abbrev pub bit : Bool → Row
 bit b = plain Cst 1 (cond b 1 0)
 
 -- the result as a plain value of a region
 abbrev pub result_in : Region → BinaryOp → ℕ → ℕ → ℕ → Row
-result_in g op w m n = plain g (result_width op w) (result op w m n)
+result_in g op w m n = plain g (result_width op w) (result_of op w m n)
 
 -- Rules 3 to 8, of two plain values of width w: m in region g, and n in region h. Rules 3, 5, 6 and 7 have two lines
 -- each.

@@ -1,7 +1,7 @@
 ghost use Rattle.std.specs.Prelude.{◌≡◌, ◌%◌, ◌^◌, ◌<◌, ◌≤◌, true, false, ◌||◌, Ok};
 ghost use Rattle.value.specs.Rows.{cst, part, undefined};
 ghost use Rattle.value.specs.Outcome.{outcome};
-ghost use Rattle.operator.specs.Rules.{ordered, holds, divides, result_width, result, result_in, by_regions, by_rules, size_of, inside, within, applied};
+ghost use Rattle.operator.specs.Rules.{ordered, holds, divides, result_width, result_of, result_in, by_regions, by_rules, size_of, inside, within, applied};
 
 use crate::ops::*;
 use crate::words;
@@ -10,7 +10,7 @@ use value::rows::*;
 use value::values::{ADDRESS_WIDTH, Value};
 
 fn is_ordered(order: Order, less: bool, more: bool) -> bool
-    ensures* { λ r. ⌜ r ≡ ordered order less more ⌝ }
+    ensures { result ≡ ordered order less more }
 {
     match order {
         Order::Less => less,
@@ -22,7 +22,7 @@ fn is_ordered(order: Order, less: bool, more: bool) -> bool
 
 fn compare(comparison: Comparison, width: u8, m: u64, n: u64) -> bool
     requires { (1 ≤ width) × ((width ≤ 64) × ((m < 2 ^ width) × (n < 2 ^ width))) }
-    ensures* { λ r. ⌜ r ≡ holds comparison width m n ⌝ }
+    ensures { result ≡ holds comparison width m n }
 {
     match comparison {
         Comparison::Equal => m == n,
@@ -38,7 +38,7 @@ fn compare(comparison: Comparison, width: u8, m: u64, n: u64) -> bool
 
 fn divide(division: Division, width: u8, m: u64, n: u64) -> u64
     requires { (1 ≤ width) × ((width ≤ 64) × ((m < 2 ^ width) × ((n < 2 ^ width) × (0 < n)))) }
-    ensures* { λ r. ⌜ r % 2 ^ width ≡ result (BinaryOp.Divide division) width m n ⌝ }
+    ensures { result % 2 ^ width ≡ result_of (BinaryOp.Divide division) width m n }
 {
     match division {
         Division::UnsignedQuotient => m / n,
@@ -50,7 +50,7 @@ fn divide(division: Division, width: u8, m: u64, n: u64) -> u64
 
 // A comparison gives one bit; the rest keep the width.
 pub fn result_width(op: BinaryOp, width: u8) -> u8
-    ensures* { λ r. ⌜ r ≡ result_width op width ⌝ }
+    ensures { result ≡ result_width op width }
 {
     match op {
         BinaryOp::Compare(_) => 1,
@@ -62,7 +62,7 @@ pub fn result_width(op: BinaryOp, width: u8) -> u8
 fn result_bits(op: BinaryOp, width: u8, m: u64, n: u64) -> u64
     requires wide { (1 ≤ width) × ((width ≤ 64) × ((m < 2 ^ width) × (n < 2 ^ width))) }
     requires divisor { divides op ≡ true → 0 < n }
-    ensures* { λ r. ⌜ r % 2 ^ result_width op width ≡ result op width m n ⌝ }
+    ensures { result % 2 ^ result_width op width ≡ result_of op width m n }
 {
     match op {
         BinaryOp::Add => m.wrapping_add(n),
@@ -86,7 +86,7 @@ fn result_in(region: Region, op: BinaryOp, width: u8, m: u64, n: u64) -> Result<
     requires wide { (1 ≤ width) × ((width ≤ 64) × ((m < 2 ^ width) × (n < 2 ^ width))) }
     requires divisor { divides op ≡ true → 0 < n }
     requires pointer { cst region ≡ false → result_width op width ≡ 32 }
-    ensures* { λ r. ⌜ outcome r ≡ Ok (result_in region op width m n) ⌝ }
+    ensures { outcome result ≡ Ok (result_in region op width m n) }
 {
     let bits = result_bits(op, width, m, n);
     match region {
@@ -100,7 +100,7 @@ fn by_regions(op: BinaryOp, width: u8, g: Region, m: u64, h: Region, n: u64) -> 
     requires wide { (1 ≤ width) × ((width ≤ 64) × ((m < 2 ^ width) × (n < 2 ^ width))) }
     requires left { cst g ≡ false → width ≡ 32 }
     requires right { cst h ≡ false → width ≡ 32 }
-    ensures* { λ r. ⌜ outcome r ≡ by_regions op width g m h n ⌝ }
+    ensures { outcome result ≡ by_regions op width g m h n }
 {
     match (op, g, h) {
         (BinaryOp::Divide(_), Region::Cst, Region::Cst) if n == 0 => Err(Fault::ZeroDivisor),
@@ -117,26 +117,26 @@ fn by_regions(op: BinaryOp, width: u8, g: Region, m: u64, h: Region, n: u64) -> 
 }
 
 fn any_undefined(a: Row, b: Row) -> bool
-    ensures* { λ r. ⌜ r ≡ (undefined a || undefined b) ⌝ }
+    ensures { result ≡ (undefined a || undefined b) }
 {
     !a.defined || !b.defined
 }
 
 fn is_part(row: Row) -> bool
-    ensures* { λ r. ⌜ r ≡ part row ⌝ }
+    ensures { result ≡ part row }
 {
     row.region != Region::Cst && !(row.low == 0 && row.high == ADDRESS_WIDTH - 1)
 }
 
 fn any_part(a: Row, b: Row) -> bool
-    ensures* { λ r. ⌜ r ≡ (part a || part b) ⌝ }
+    ensures { result ≡ (part a || part b) }
 {
     is_part(a) || is_part(b)
 }
 
 // The eight rules, tried from the top.
 fn by_rules(op: BinaryOp, left: Value, right: Value) -> Result<Value, Fault>
-    ensures* { λ r. ⌜ outcome r ≡ by_rules op left.row right.row ⌝ }
+    ensures { outcome result ≡ by_rules op left.row right.row }
 {
     let a = left.row();
     let b = right.row();
@@ -153,7 +153,7 @@ fn by_rules(op: BinaryOp, left: Value, right: Value) -> Result<Value, Fault>
 }
 
 fn size_of(regions: &[RegionRecord], k: u8) -> u16
-    ensures* { λ r. ⌜ r ≡ size_of regions.now k ⌝ }
+    ensures { result ≡ size_of regions.now k }
 {
     if k == 0 || k as usize > regions.len() {
         0
@@ -163,7 +163,7 @@ fn size_of(regions: &[RegionRecord], k: u8) -> u16
 }
 
 fn is_inside(regions: &[RegionRecord], region: Region, offset: u64) -> bool
-    ensures* { λ r. ⌜ r ≡ inside regions.now region offset ⌝ }
+    ensures { result ≡ inside regions.now region offset }
 {
     match region {
         Region::Malloc(k) => offset < size_of(regions, k) as u64,
@@ -172,7 +172,7 @@ fn is_inside(regions: &[RegionRecord], region: Region, offset: u64) -> bool
 }
 
 fn bounded(regions: &[RegionRecord], v: Value) -> Result<Value, Fault>
-    ensures* { λ r. ⌜ outcome r ≡ within regions.now (Ok v.row) ⌝ }
+    ensures { outcome result ≡ within regions.now (Ok v.row) }
 {
     let row = v.row();
     if is_inside(regions, row.region, row.number) {
@@ -189,7 +189,7 @@ pub fn apply(
     right: Value,
     regions: &[RegionRecord],
 ) -> Result<Value, Fault>
-    ensures* { λ r. ⌜ outcome r ≡ applied regions.now op left.row right.row ⌝ }
+    ensures { outcome result ≡ applied regions.now op left.row right.row }
 {
     let v = by_rules(op, left, right)?;
     bounded(regions, v)

@@ -11,7 +11,7 @@ loop-node-preserved c =
     let n = get_or c.args.nodes.now c.loop-node.node-index blank in
     let rest = drop (c.loop-node.node-index + 1) c.args.nodes.now in
     let o = one_more n c.loop-node.held in
-    let e : c.held-after-held.result ≡ after_node n c.loop-node.held = c.held-after-held.ensures in
+    let e : c.held_after-held.result ≡ after_node n c.loop-node.held = c.held_after-held.ensures in
     let m : c.max-most.result ≡ max c.loop-node.most (after_node n c.loop-node.held) = grind (arith, nat_tests) in
     (omega arith, omega arith, ap (λ k. max c.max-most.result (peak k rest)) e ∙ ap (λ k. max k (peak (after_node n c.loop-node.held) rest)) m ∙ sym (peak_more blank c.args.nodes.now c.loop-node.node-index c.loop-node.held c.loop-node.most c.loop-node-test.true c.loop-node.invariant.1) ∙ c.loop-node.invariant.2)
 

@@ -7,7 +7,7 @@ pub returns-in-err-depth : goal.returns-in-err-depth
 returns-in-err-depth g c =
     let a = g.A.Arithmetic.gives c.args.arithmetic.now in
     let end = c.args.span.first + c.args.span.count in
-    let p = err_from_is_err_and c.from-residual.result c.from-residual.ensures.1 in
+    let p = err_from_is_err_and c.from_residual.result c.from_residual.ensures.1 in
     let stop = runs_stop a c.args.nodes.now c.loop-i.i end c.loop-i.depth c.loop-i.stack blank (omega arith) (omega arith) _ c.step.new.stack c.in-err-depth.ensures in
     p.1 ∙ ap (λ f. Err f) p.2 ∙ sym (whole a c.args.nodes.now c.args.span _ (sym c.loop-i.invariant.1 ∙ stop))
 

@@ -9,6 +9,6 @@ returns c =
     record {
       answer = told;
       filled = refl;
-      exact = (λ _. (c.check-is-exact.ensures t.widths.now t.nodes.now t.instructions.now t.entry).0 (sym (ap is_ok told)), λ _. refl);
-      deep = c.depth-is-enough.ensures t.widths.now t.nodes.now t.instructions.now t.entry _ (sym told);
+      exact = (λ _. (c.check_is_exact.ensures t.widths.now t.nodes.now t.instructions.now t.entry).0 (sym (ap is_ok told)), λ _. refl);
+      deep = c.depth_is_enough.ensures t.widths.now t.nodes.now t.instructions.now t.entry _ (sym told);
     }

@@ -19,5 +19,5 @@ plain bs r o none h e =
 
 pub returns : goal.returns
 returns c =
-    let starts = starts_char 43 c.args.text.now c.starts-with.result c.starts-with.ensures.cases (lit< tt) (lit< tt) in
-    plain c.args.text.now c.parse.result c.ok.result (not_from_Decides _ starts c.if-starts-with.false) c.parse.ensures.value.0 c.ok.ensures.value
+    let starts = starts_char 43 c.args.text.now c.starts_with.result c.starts_with.ensures.cases (lit< tt) (lit< tt) in
+    plain c.args.text.now c.parse.result c.ok.result (not_from_Decides _ starts c.if-starts_with.false) c.parse.ensures.value.0 c.ok.ensures.value

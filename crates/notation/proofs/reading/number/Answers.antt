@@ -8,4 +8,4 @@ returns c =
     (cut 58 _ c.in-ok-width.width c.in-ok-width.number c.in-ok-width.ensures.cases (lit< tt))
     (writes _ _ _ c.in-ok-byte.ensures)
     (writes _ _ _ c.in-ok-decimal.ensures)
-    c.in-ok-checked-sub.ensures
+    c.in-ok-checked_sub.ensures

@@ -25,5 +25,5 @@ returns-in-S c =
 pub returns-in-ok-byte : goal.returns-in-ok-byte
 returns-in-ok-byte c =
     weaker c.pointer-in-default.result _ (RowText c.args.text.now)
-    (λ r said. inr (inr (inr (c.in-ok-strip-prefix.field-0.now, c.in-ok-kind.rest.now, c.in-ok-byte.field-0, headed c.args.text.now c.in-ok-kind.kind.now c.in-ok-kind.rest.now (77 ∷ c.in-ok-strip-prefix.field-0.now) (cut 58 _ c.in-ok-kind.kind c.in-ok-kind.rest c.in-ok-kind.ensures.cases (lit< tt)) (strip_prefix_char 77 _ (Some c.in-ok-strip-prefix.field-0) c.in-ok-strip-prefix.ensures.cases (lit< tt)), writes _ _ _ c.in-ok-byte.ensures, said))))
+    (λ r said. inr (inr (inr (c.in-ok-strip_prefix.field-0.now, c.in-ok-kind.rest.now, c.in-ok-byte.field-0, headed c.args.text.now c.in-ok-kind.kind.now c.in-ok-kind.rest.now (77 ∷ c.in-ok-strip_prefix.field-0.now) (cut 58 _ c.in-ok-kind.kind c.in-ok-kind.rest c.in-ok-kind.ensures.cases (lit< tt)) (strip_prefix_char 77 _ (Some c.in-ok-strip_prefix.field-0) c.in-ok-strip_prefix.ensures.cases (lit< tt)), writes _ _ _ c.in-ok-byte.ensures, said))))
     c.pointer-in-default.ensures

@@ -10,5 +10,5 @@ returns-in-Sign c k h =
     let b = pow_below c.args.width 64 c.requires.1.0 in
     ap (λ x. (c.args.n + (2 ^ 64 - x)) % 2 ^ 64 % 2 ^ k) (one_shl c.args.width 64 c.requires.1.0)
     ∙ cut_difference c.args.n (2 ^ c.args.width) k h (omega arith)
-    ∙ ap (wrap k) (sym (signed_negative c.args.width c.args.n (sym c.if-is-negative.ensures)))
+    ∙ ap (wrap k) (sym (signed_negative c.args.width c.args.n (cc)))
     ∙ ap (λ x. wrap k (meant x c.args.width c.args.n)) (sym c.in-Sign.is)

@@ -1,22 +1,14 @@
 -- The items of the arithmetics of values have the widths that the rules give.
-use Rattle.std.proofs.Common.{◌≡◌, ℕ, ◌+◌, ◌-◌, Bool, true, false, cond, ◌&&◌, ◌||◌, eqb, ltb, leb, List, [], ◌∷◌, Ok, Err, Result, refl, arith}
+use Rattle.std.proofs.Common.{◌≡◌, ℕ, ◌+◌, ◌-◌, Bool, true, false, cond, ◌&&◌, ltb, leb, Ok, Err, refl, arith}
 use Rattle.std.proofs.lemmas.Bool.Decides.{nat_tests}
-use Rattle.answer.specs.declared.faults.Fault.{Fault}
 use Rattle.answer.specs.declared.faults.Fault.TheVariants.{NoExactValue}
 use Rattle.value.specs.declared.rows.Row.{Row}
-use Rattle.value.specs.declared.rows.RegionRecord.{RegionRecord}
 use Rattle.value.specs.Rows.{Outcome, sound, width}
-use Rattle.operator.specs.declared.ops.BinaryOp.{BinaryOp}
-use Rattle.operator.specs.declared.ops.BinaryOp.TheVariants.{Add, Sub, Mul, And, Or, Divide, Compare}
-use Rattle.operator.specs.Rules.{applied, by_rules, by_regions, within, result_width}
-use Rattle.operator.specs.Bits.{inverted, extended, restricted, concatenated}
-use Rattle.expression.specs.declared.nodes.Literal.{Literal}
+use Rattle.operator.specs.Bits.{inverted, extended, restricted}
 use Rattle.expression.specs.declared.nodes.UnaryOp.{UnaryOp}
 use Rattle.expression.specs.declared.nodes.UnaryOp.TheVariants.{Not, Extend, Restrict}
-use Rattle.expression.specs.declared.stops.Defect.{Defect}
-use Rattle.expression.specs.declared.stops.Defect.TheVariants.{RuleBroken}
-use Rattle.expression.specs.Widths.{Fit, Sound, by_rule, literal_fits, width_arith, width_unary}
-use Rattle.evaluation.specs.Values.{constant_row, of_value, unary_row, binary_row, joined_row, lone_arith}
+use Rattle.expression.specs.Widths.{Fit, by_rule, width_unary}
+use Rattle.evaluation.specs.Values.{of_value, unary_row}
 
 -- a row, where there is one, has the width w
 abbrev pub Wide : ℕ → Outcome → Type 0
@@ -38,6 +30,6 @@ wide_value : (w : ℕ) (x : Row) (o : Outcome) → (sound x ≡ true → Wide w 
 wide_value w x o h = wide_cond (sound x) w o (Err NoExactValue) h (λ _. tt)
 
 wide_unary : (o : UnaryOp) (x : Row) → Fit width (width_unary o (width x)) (unary_row o x)
-wide_unary Not x = ?
-wide_unary (Extend how k) x = fit_rule (ltb (width x) k && leb k 64) k (unary_row (Extend how k) x) (λ h. wide_value k x (extended how x k) (λ s. ?))
-wide_unary (Restrict i j) x = fit_rule (leb i j && ltb j (width x)) (j - i + 1) (unary_row (Restrict i j) x) (λ h. wide_value (j - i + 1) x (restricted x i j) (λ s. ?))
+wide_unary Not x = fit_rule true (width x) (unary_row Not x) (λ h. wide_value (width x) x (inverted x) (λ s. grind (arith, nat_tests)))
+wide_unary (Extend how k) x = fit_rule (ltb (width x) k && leb k 64) k (unary_row (Extend how k) x) (λ h. wide_value k x (extended how x k) (λ s. grind (arith, nat_tests)))
+wide_unary (Restrict i j) x = fit_rule (leb i j && ltb j (width x)) (j - i + 1) (unary_row (Restrict i j) x) (λ h. wide_value (j - i + 1) x (restricted x i j) (λ s. grind (arith, nat_tests)))

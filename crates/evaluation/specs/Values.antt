@@ -1,5 +1,5 @@
 -- Values as items of a walk, each held as its row.
-use Rattle.std.specs.Prelude.{◌≡◌, ℕ, List, [], ◌∷◌, Ok, Err, nat_eq}
+use Rattle.std.specs.Prelude.{List, [], Ok, Err, nat_eq}
 use Rattle.answer.specs.First.{◌gives◌else◌}
 use Rattle.answer.specs.declared.faults.Fault.{Fault}
 use Rattle.answer.specs.declared.faults.Fault.TheVariants.{NoExactValue}

@@ -1,16 +1,15 @@
 -- The items that a walk holds are counted by its nodes.
-use Rattle.std.proofs.Common.{◌≡◌, ℕ, zero, suc, ◌+◌, ◌-◌, ◌<◌, ◌≤◌, max, Bool, true, false, cond, ltb, List, [], ◌∷◌, length, get_or, take, drop, Ok, Err, Result, sym, refl, ap, ◌∙◌, subst, arith}
-use Rattle.std.proofs.lemmas.List.{at_drop_more, at_drop_all}
+use Rattle.std.proofs.Common.{◌≡◌, ℕ, zero, suc, ◌+◌, ◌-◌, ◌<◌, ◌≤◌, max, Bool, true, false, cond, ltb, List, [], ◌∷◌, length, get_or, take, drop, Ok, Err, Result, sym, refl, ap, ◌∙◌, arith}
+use Rattle.std.proofs.lemmas.List.{at_drop_more}
 use Rattle.std.proofs.lemmas.Bool.{ltb-true}
 use Rattle.answer.specs.declared.faults.Layer.{Layer}
 use Rattle.answer.specs.declared.faults.Layer.TheVariants.{Arithmetic}
 use Rattle.expression.specs.declared.nodes.Node.{Node}
 use Rattle.expression.specs.declared.nodes.Node.TheVariants.{Constant, Variable, Read, Unary, Binary, Concatenate}
-use Rattle.expression.specs.declared.nodes.Span.{Span}
 use Rattle.expression.specs.declared.stops.Cause.{Cause}
 use Rattle.expression.specs.declared.stops.Cause.TheVariants.{Outside, Full}
 use Rattle.expression.specs.declared.stops.Stopped.{Stopped}
-use Rattle.expression.specs.Walk.{Arith, most_held, pushed, on_one, on_two, with_memory, stepped, at_node, runs, ended, stop, spanned, spans, walked_inside, walked}
+use Rattle.expression.specs.Walk.{Arith, most_held, pushed, on_one, on_two, with_memory, stepped, at_node, runs, ended, stop, spanned, spans, walked_inside}
 use Rattle.expression.specs.Heights.{after_node, peak, Peaks}
 use Rattle.expression.proofs.Follow.{not_ok, same}
 

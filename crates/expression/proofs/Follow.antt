@@ -1,15 +1,14 @@
 -- Two walks go side by side.
-use Rattle.std.proofs.Common.{◌≡◌, ℕ, suc, ◌+◌, Bool, true, false, cond, ltb, List, [], ◌∷◌, length, Ok, Err, Result, sym, refl, ap, ◌∙◌, subst, arith}
+use Rattle.std.proofs.Common.{◌≡◌, ℕ, suc, ◌+◌, Bool, true, false, cond, ltb, List, [], ◌∷◌, length, Ok, Err, Result, refl, ap, ◌∙◌, subst, arith}
 use Rattle.answer.specs.declared.faults.Layer.{Layer}
 use Rattle.answer.specs.declared.faults.Layer.TheVariants.{Arithmetic, Memory}
 use Rattle.expression.specs.declared.nodes.Node.{Node}
 use Rattle.expression.specs.declared.nodes.Node.TheVariants.{Constant, Variable, Read, Unary, Binary, Concatenate}
-use Rattle.expression.specs.declared.nodes.Span.{Span}
 use Rattle.expression.specs.declared.stops.Cause.{Cause}
 use Rattle.expression.specs.declared.stops.Cause.TheVariants.{Outside, Full}
 use Rattle.expression.specs.declared.stops.Defect.{Defect}
 use Rattle.expression.specs.declared.stops.Stopped.{Stopped}
-use Rattle.expression.specs.Walk.{Arith, most_held, pushed, on_one, on_two, with_memory, stepped, at_node, runs, only, ended, spans, spanned, stop, walked_inside, walked}
+use Rattle.expression.specs.Walk.{Arith, most_held, pushed, on_one, on_two, with_memory, stepped, at_node, runs, only, ended, spans, spanned, stop, walked_inside}
 use Rattle.expression.specs.Widths.{Fit, Sound, width_arith, width_unary}
 use Rattle.expression.specs.Follow.{Own, Both, Follows, Passed, Stays, Keeps}
 

@@ -1,5 +1,5 @@
 -- The items held in a slice, as a list with the top first.
-use Rattle.std.proofs.Common.{◌≡◌, ℕ, ◌+◌, ◌-◌, ◌<◌, ◌≤◌, ltb, List, [], ◌∷◌, ◌++◌, reverse, length, get_or, take, set, Ok, Err, Result, sym, refl, ap, ◌∙◌, arith, length-take-le}
+use Rattle.std.proofs.Common.{◌≡◌, ℕ, ◌+◌, ◌<◌, ◌≤◌, ltb, List, [], ◌∷◌, reverse, length, get_or, take, set, Ok, Err, Result, sym, ap, ◌∙◌, arith, length-take-le}
 use mathlib.Core.List.{reverse-append}
 use lib.ListN.{length-reverse}
 use Rattle.std.proofs.lemmas.List.{take_more, take_more_set}

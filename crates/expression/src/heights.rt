@@ -30,5 +30,5 @@ pub fn most_held(nodes: &[Node]) -> usize
 
 // No walk of an arithmetic holds more than the peak of its nodes, and one that gives an item holds at most 32.
 pub fn peaks<A: Arithmetic>(arithmetic: &A)
-    ensures { Peaks (gives arithmetic.now) }
+    ensures { Peaks (A.gives arithmetic.now) }
 {}

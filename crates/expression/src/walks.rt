@@ -42,7 +42,7 @@ fn step<A: Arithmetic>(
     depth: usize,
 ) -> Result<usize, Stopped<A::Fault>>
     requires { (depth ≤ 32) × (32 ≤ length stack.old) }
-    ensures { Stepped place stack.new result (stepped (gives arithmetic.now) node (held depth stack.old)) }
+    ensures { Stepped place stack.new result (stepped (A.gives arithmetic.now) node (held depth stack.old)) }
 {
     match node {
         Node::Constant(literal) => {
@@ -107,7 +107,7 @@ fn walk_inside<A: Arithmetic>(
 ) -> Result<A::Item, Stopped<A::Fault>>
     requires inside { (span.first + span.count ≤ length nodes.now) × (span.first + span.count ≤ 512) }
     requires room { 32 ≤ length stack.old }
-    ensures { result ≡ walked_inside (gives arithmetic.now) nodes.now span }
+    ensures { result ≡ walked_inside (A.gives arithmetic.now) nodes.now span }
 {
     let end = span.first + span.count;
     let mut depth = 0;
@@ -128,7 +128,7 @@ pub fn walk<A: Arithmetic>(
     span: Span,
     stack: &mut [A::Item; HELD],
 ) -> Result<A::Item, Stopped<A::Fault>>
-    ensures { result ≡ walked (gives arithmetic.now) nodes.now span }
+    ensures { result ≡ walked (A.gives arithmetic.now) nodes.now span }
 {
     if is_inside(span, nodes.len()) {
         walk_inside(arithmetic, nodes, span, stack)
@@ -145,5 +145,5 @@ pub fn simulates<A: Arithmetic, B: Arithmetic>(first: &A, second: &B)
 
 // Where the walk in bare widths gives a width, the walk of any arithmetic gives an item of that width or its own fault.
 pub fn keeps_widths<A: Arithmetic>(arithmetic: &A)
-    ensures { Keeps (widths arithmetic.now) wide (gives arithmetic.now) }
+    ensures { Keeps (A.widths arithmetic.now) A.wide (A.gives arithmetic.now) }
 {}

@@ -34,7 +34,7 @@ returns-else-depth-lt1 g c =
     let d = c.args.depth in
     let xs = c.args.stack.now in
     then_pushed d xs (omega arith) Memory _ _ c.push-in-Read.new.stack c.push-in-Read.result _ _ _ c.push-in-Read.ensures c.read-got.ensures
-    (ap (λ n. stepped a n (held d xs)) c.in-Read.is ∙ read_there d xs (omega arith) a _ c.memory.result c.in-default.field-0 c.memory.ensures c.in-default.is ∙ one d xs (omega arith) Memory (a.read c.in-Read.access) _ (omega arith) c.index-stack-depth.is)
+    (ap (λ n. stepped a n (held d xs)) c.in-Read.is ∙ read_there d xs (omega arith) a _ c.memory.result c.in_default.field-0 c.memory.ensures c.in_default.is ∙ one d xs (omega arith) Memory (a.read c.in-Read.access) _ (omega arith) c.index-stack-depth.is)
 
 pub returns-else-depth-lt1-2 : goal.returns-else-depth-lt1-2
 returns-else-depth-lt1-2 g c =

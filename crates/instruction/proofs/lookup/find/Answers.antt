@@ -1,11 +1,10 @@
 use Rattle.std.proofs.Common.{None, sym, arith}
-use Rattle.instruction.proofs.Known.{same_true, same_false}
 use Rattle.instruction.proofs.Bisection.{upper, lower, found_none, found_at}
 use Rattle.instruction.proofs.lookup.find.Goals as goal
 
 pub returns-then-eq : goal.returns-then-eq
 returns-then-eq c h =
-    sym (found_at 0 None c.args.instructions.now c.args.address _ _ _ h (omega arith) (same_true _ _ c.if-eq.ensures) (omega arith))
+    sym (found_at 0 None c.args.instructions.now c.args.address _ _ _ h (omega arith) (sym c.if-eq.ensures) (omega arith))
 
 pub loop-low-preserved-then-precedes : goal.loop-low-preserved-then-precedes
 loop-low-preserved-then-precedes c =
@@ -14,7 +13,7 @@ loop-low-preserved-then-precedes c =
 pub loop-low-preserved : goal.loop-low-preserved
 loop-low-preserved c = (
   omega arith,
-  lower c.args.instructions.now c.args.address _ _ _ _ (omega arith) (sym c.if-precedes.ensures) (same_false _ _ c.if-eq.ensures) c.loop-low.invariant.1,
+  lower c.args.instructions.now c.args.address _ _ _ _ (omega arith) (sym c.if-precedes.ensures) (sym c.if-eq.ensures) c.loop-low.invariant.1,
 )
 
 pub returns : goal.returns

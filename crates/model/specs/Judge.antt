@@ -1,5 +1,5 @@
 -- The check: the first broken rule, by number and place.
-use Rattle.std.specs.Prelude.{◌≡◌, ℕ, ◌+◌, ◌*◌, max, Bool, true, false, cond, ◌&&◌, ◌||◌, List, [], ◌∷◌, length, Some, None, Ok, Err, Option, Result, ◌==◌, nat_le, nat_lt}
+use Rattle.std.specs.Prelude.{ℕ, ◌+◌, ◌*◌, max, Bool, true, false, ◌&&◌, ◌||◌, List, [], ◌∷◌, length, Some, None, Ok, Err, Option, Result, ◌==◌, nat_le, nat_lt}
 use Rattle.answer.specs.First.{◌gives◌else◌, and_then}
 use Rattle.answer.specs.declared.refusals.Reason.TheVariants.{TableSize, DeclaredWidth, AddressOrder, Unresolved, RuleBroken, BadTarget}
 use Rattle.answer.specs.declared.refusals.Place.TheVariants as places

@@ -9,8 +9,8 @@ returns-in-None c = sym (found_none c.args.self.now.tables.instructions.now c.ar
 pub bounds-self-i : goal.bounds-self-i
 bounds-self-i c = (found_some c.args.self.now.tables.instructions.now c.args.address _ c.in-Some.ensures).0
 
-pub offset-bounds-self-i : goal.offset-bounds-self-i
-offset-bounds-self-i c =
+pub offset_bounds-self-i : goal.offset_bounds-self-i
+offset_bounds-self-i c =
     let t = c.args.self.now.tables in
     let few = few_passed t.widths.now t.nodes.now t.instructions.now t.entry c.args.self.now.ok in
     let in_table = (found_some t.instructions.now c.args.address _ c.in-Some.ensures).0 in

@@ -180,5 +180,6 @@ fn sizes(rt: HostRuntime) -> Result<(), Fail> {
     println!(rt;
         "bytes: node {node}, instruction {instruction}, 512 nodes and 128 instructions {tables}"
     )?;
-    check(tables <= 17 * 1024)
+    assert!(rt; tables <= 17 * 1024);
+    Ok(())
 }

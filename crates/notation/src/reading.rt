@@ -1,9 +1,9 @@
 // Text to cases. It is proved that what is read stands in the text, word by word; that each well-formed text is read is
 // proved of decimals, faults and operators of two operands, and tested of the rest, as is the cut into words.
 ghost use Rattle.std.specs.Prelude.{◌≡◌, ℕ, ◌+◌, ◌^◌, ◌<◌, ◌≤◌, length, IfSome, IfOk, vec_len, MatchOption, ◌≢◌};
-ghost use Rattle.std.specs.List.{AllByRecursion as All};
+ghost use Rattle.std.specs.List.{AllByRecursion};
 ghost use Rattle.std.specs.Option.{SomeIff};
-ghost use Rattle.std.specs.Str.Parse.{IsNumeral, digits_value as read-value};
+ghost use Rattle.std.specs.Str.Parse.{IsNumeral, digits_value};
 ghost use Rattle.answer.specs.Numbers.{fault_number};
 ghost use Rattle.notation.specs.declared.reading.Unread.TheVariants.{Malformed, NoMemory};
 ghost use Rattle.notation.specs.Texts.{Span, NumberText, UndefinedText, PointerText, RowText, ResultText};
@@ -85,7 +85,7 @@ impl<T: Drop> From<AllocFailed<T>> for Unread {
 
 // Digits and nothing else, at least one.
 fn decimal(text: &str) -> Option<u64>
-    ensures { SomeIff result (IsNumeral 10 text.now × (read-value 10 text.now < 2 ^ 64)) (read-value 10 text.now) }
+    ensures { SomeIff result (IsNumeral 10 text.now × (digits_value 10 text.now < 2 ^ 64)) (digits_value 10 text.now) }
 {
     if text.starts_with('+') {
         return None;
@@ -94,7 +94,7 @@ fn decimal(text: &str) -> Option<u64>
 }
 
 fn byte(text: &str) -> Option<u8>
-    ensures { SomeIff result (IsNumeral 10 text.now × (read-value 10 text.now < 2 ^ 8)) (read-value 10 text.now) }
+    ensures { SomeIff result (IsNumeral 10 text.now × (digits_value 10 text.now < 2 ^ 8)) (digits_value 10 text.now) }
 {
     u8::try_from(decimal(text)?).ok()
 }
@@ -289,7 +289,7 @@ fn regions(heap: Global, words: &[&str]) -> Result<Vec<RegionRecord>, Unread>
 }
 
 fn words<'a>(heap: Global, text: &'a str) -> Result<Vec<&'a str>, AllocError>
-    ensures { IfOk result (λ v. All (λ w. 0 < length w.now) v.items) }
+    ensures { IfOk result (λ v. AllByRecursion (λ w. 0 < length w.now) v.items) }
 {
     let mut all = Vec::new(heap);
     for word in text.split([' ', '\t']) {

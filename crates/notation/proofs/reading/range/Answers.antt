@@ -5,8 +5,8 @@ use Rattle.notation.proofs.reading.range.Goals as goal
 
 pub returns : goal.returns
 returns c =
-    span _ c.in-ok-strip_suffix.field-0.now c.in-ok-low.low.now c.in-ok-low.high.now _ _
-    (strip_suffix_char 125 c.args.text.now (Some c.in-ok-strip_suffix.field-0) c.in-ok-strip_suffix.ensures.cases (lit< tt))
-    (cut 44 _ c.in-ok-low.low c.in-ok-low.high c.in-ok-low.ensures.cases (lit< tt))
-    (writes _ _ _ c.in-ok-byte.ensures)
-    (writes _ _ _ c.in-ok-byte-2.ensures)
+    span _ c.in_ok-strip_suffix.field-0.now c.in_ok-low.low.now c.in_ok-low.high.now _ _
+    (strip_suffix_char 125 c.args.text.now (Some c.in_ok-strip_suffix.field-0) c.in_ok-strip_suffix.ensures.cases (lit< tt))
+    (cut 44 _ c.in_ok-low.low c.in_ok-low.high c.in_ok-low.ensures.cases (lit< tt))
+    (writes _ _ _ c.in_ok-byte.ensures)
+    (writes _ _ _ c.in_ok-byte-2.ensures)

@@ -31,8 +31,8 @@ of_two (op ∷ v ∷ w ∷ m ∷ []) d e n mark h = let no : ⊥ = omega arith i
 of_two (op ∷ v ∷ w ∷ m ∷ x ∷ []) d e n mark h = at_two op v w m x e mark h
 of_two (op ∷ v ∷ w ∷ m ∷ x ∷ y ∷ ws) d e n mark h = let no : ⊥ = omega arith in absurd no
 
-pub returns-in-ok-try_one : goal.returns-in-ok-try_one
-returns-in-ok-try_one c = let n : length c.args.words.now ≡ 4 = search rules in of_one c.args.words.now _ c.in-ok-try_one.field-0 n c.in-text.is-text c.in-ok-try_one.ensures
+pub returns-in_ok-try_one-in-text : goal.returns-in_ok-try_one-in-text
+returns-in_ok-try_one-in-text c = let n : length c.args.words.now ≡ 4 = search rules in of_one c.args.words.now _ c.in_ok-try_one-in-text.field-0 n c.in-text.is-text c.in_ok-try_one-in-text.ensures
 
-pub returns-in-ok-try_two : goal.returns-in-ok-try_two
-returns-in-ok-try_two c = let n : length c.args.words.now ≡ 5 = search rules in of_two c.args.words.now _ c.in-ok-try_two.field-0 n c.in-text-2.is-text c.in-ok-try_two.ensures
+pub returns-in_ok-try_two-in-text-2 : goal.returns-in_ok-try_two-in-text-2
+returns-in_ok-try_two-in-text-2 c = let n : length c.args.words.now ≡ 5 = search rules in of_two c.args.words.now _ c.in_ok-try_two-in-text-2.field-0 n c.in-text-2.is-text c.in_ok-try_two-in-text-2.ensures

@@ -12,7 +12,7 @@ use Rattle.operator.specs.declared.ops.BinaryOp.{BinaryOp}
 use Rattle.operator.specs.Rules.{applied}
 use Rattle.operator.specs.Bits.{inverted, extended, restricted, concatenated}
 use Rattle.expression.specs.declared.nodes.FixedRegion as fixed
-use Rattle.expression.specs.declared.nodes.FixedRegion.TheVariants as fixed-regions
+use Rattle.expression.specs.declared.nodes.FixedRegion.TheVariants as fixed_regions
 use Rattle.expression.specs.declared.nodes.Literal.{Literal}
 use Rattle.expression.specs.declared.nodes.UnaryOp.{UnaryOp}
 use Rattle.expression.specs.declared.nodes.UnaryOp.TheVariants.{Not, Extend, Restrict}
@@ -20,8 +20,8 @@ use Rattle.expression.specs.Walk.{Arith}
 use Rattle.expression.specs.Widths.{literal_fits}
 
 abbrev pub region_of : fixed.FixedRegion → Region
-region_of fixed-regions.Cst = Cst
-region_of fixed-regions.Stack = Stack
+region_of fixed_regions.Cst = Cst
+region_of fixed_regions.Stack = Stack
 
 -- the value of a constant, where it is one
 abbrev pub constant_row : Literal → Outcome

@@ -1,6 +1,6 @@
 -- The depth that a pass reports is enough for every walk.
 use Rattle.std.proofs.Common.{◌≡◌, ℕ, ◌≤◌, true, List, [], ◌∷◌, length, Some, None, Ok, Option, ap, subst, arith}
-use Rattle.std.specs.List.{AllByRecursion as All}
+use Rattle.std.specs.List.{AllByRecursion}
 use Rattle.expression.specs.declared.nodes.Node.{Node}
 use Rattle.expression.specs.declared.nodes.Span.{Span}
 use Rattle.expression.specs.Walk.{most_held, spanned, walked}
@@ -39,7 +39,7 @@ module _ (ws : List ℕ) (ns : List Node) where
       let (w, p, s, q, _) = found ws ns a t in
       omega (arith, right_peak (right_of a) w p, left_peak (left_of a) s q)
 
-  few : (is : List Instruction) → All (λ x. Typed ws ns x.action) is → deepest ns is ≤ most_held
+  few : (is : List Instruction) → AllByRecursion (λ x. Typed ws ns x.action) is → deepest ns is ≤ most_held
   few [] h = omega arith
   few (x ∷ xs) (t, ts) = omega (arith, typed_peak x.action t, few xs ts)
 
@@ -51,7 +51,7 @@ module _ (ns : List Node) (d : ℕ) where
   holds : (a : Action) → action_peak ns a ≤ d → Holds ns d a
   holds a h = record { right = holds_one (right_of a) (omega arith); address = holds_one (address_in (left_of a)) (omega arith) }
 
-  all_hold : (is : List Instruction) → deepest ns is ≤ d → All (λ x. Holds ns d x.action) is
+  all_hold : (is : List Instruction) → deepest ns is ≤ d → AllByRecursion (λ x. Holds ns d x.action) is
   all_hold [] h = tt
   all_hold (x ∷ xs) h = (holds x.action (omega arith), all_hold xs (omega arith))
 

@@ -1,6 +1,6 @@
 -- The check passes exactly the well-formed tables.
 use Rattle.std.proofs.Common.{◌≡◌, ℕ, suc, ◌+◌, ◌<◌, ◌≤◌, true, not, ◌&&◌, List, [], ◌∷◌, length, get_or, Some, None, Ok, Err, Decides, Option, Result, refl, ap, ◌∙◌, add-one, arith}
-use Rattle.std.specs.List.{AllByRecursion as All}
+use Rattle.std.specs.List.{AllByRecursion}
 use Rattle.std.proofs.lemmas.Bool.{and_parts, and_from}
 use Rattle.std.proofs.lemmas.Bool.Decides.{nat_tests, Decides-and, Decides-or, Decides-eqb, Decides-ltb, Decides-like, Decides-at, Decides-by_or}
 use Rattle.answer.specs.declared.standings.Address.{Address}
@@ -98,7 +98,7 @@ module _ (ws : List ℕ) (ns : List Node) (is : List Instruction) where
       passes_both _ _ (passes_where (own_rules x.action w s) tt _ (decides_itself _))
       (passes_where _ tt _ (decides_aims is x.address x.action))))))
 
-  decides_judged : (i : ℕ) (p : Option Address) (xs : List Instruction) → Decides (is_ok (judged ws ns is i p xs)) ((rising_from p xs ≡ true) × All (λ x. Typed ws ns x.action) xs × All (λ x. Aims is x.address x.action) xs)
+  decides_judged : (i : ℕ) (p : Option Address) (xs : List Instruction) → Decides (is_ok (judged ws ns is i p xs)) ((rising_from p xs ≡ true) × AllByRecursion (λ x. Typed ws ns x.action) xs × AllByRecursion (λ x. Aims is x.address x.action) xs)
   decides_judged i p [] = (λ _. (refl, tt, tt), λ _. refl)
   decides_judged i p (x ∷ xs) =
       Decides-like _
@@ -108,7 +108,7 @@ module _ (ws : List ℕ) (ns : List Node) (is : List Instruction) where
       (Decides-at _ _ (ok_at (i + 1) (judged_one ws ns is p x)) (decides_one p x))
       (decides_judged (i + 1) (Some x.address) xs))
 
-decides_widths : (i : ℕ) (ws : List ℕ) → Decides (is_ok (widths_judged i ws)) (All (λ w. (1 ≤ w) × (w ≤ widest)) ws)
+decides_widths : (i : ℕ) (ws : List ℕ) → Decides (is_ok (widths_judged i ws)) (AllByRecursion (λ w. (1 ≤ w) × (w ≤ widest)) ws)
 decides_widths i [] = (λ _. tt, λ _. refl)
 decides_widths i (w ∷ ws) =
     passes_unless (no_width w) (widths_judged (i + 1) ws) _

@@ -2,7 +2,6 @@ use answer::faults::Fault;
 use operator::binary::apply;
 use operator::bits::*;
 use operator::ops::*;
-use std::process::Abort;
 use std::test::Fail;
 use value::values::Value;
 
@@ -49,20 +48,21 @@ const TOP: u64 = u64::MAX;
 
 const LOWEST: u64 = 1 << 63;
 
-fn give(rt: &impl Abort, width: u8, cases: &[(BinaryOp, u64, u64, u64)]) -> Result<(), Fail> {
+fn give(width: u8, cases: &[(BinaryOp, u64, u64, u64)]) -> Result<(), Fail> {
     for case in cases {
         let left = Value::from_bits(width, case.1)?;
         let right = Value::from_bits(width, case.2)?;
         let result = apply(case.0, left, right, &[])?;
-        assert_eq!(rt; result.number(), case.3);
+        if result.number() != case.3 {
+            return Err(Fail::new("another result"));
+        }
     }
     Ok(())
 }
 
 #[test]
-fn one_bit(rt: HostRuntime) -> Result<(), Fail> {
+fn one_bit() -> Result<(), Fail> {
     give(
-        &rt,
         1,
         &[
             (ADD, 1, 1, 0),
@@ -73,7 +73,6 @@ fn one_bit(rt: HostRuntime) -> Result<(), Fail> {
         ],
     )?;
     give(
-        &rt,
         1,
         &[
             (DIV_U, 1, 1, 1),
@@ -83,7 +82,6 @@ fn one_bit(rt: HostRuntime) -> Result<(), Fail> {
         ],
     )?;
     give(
-        &rt,
         1,
         &[
             (EQ, 1, 1, 1),
@@ -95,7 +93,6 @@ fn one_bit(rt: HostRuntime) -> Result<(), Fail> {
         ],
     )?;
     give(
-        &rt,
         1,
         &[
             (LT_S, 1, 0, 1),
@@ -107,9 +104,8 @@ fn one_bit(rt: HostRuntime) -> Result<(), Fail> {
 }
 
 #[test]
-fn sixty_four_bits(rt: HostRuntime) -> Result<(), Fail> {
+fn sixty_four_bits() -> Result<(), Fail> {
     give(
-        &rt,
         64,
         &[
             (ADD, TOP, 1, 0),
@@ -120,7 +116,6 @@ fn sixty_four_bits(rt: HostRuntime) -> Result<(), Fail> {
         ],
     )?;
     give(
-        &rt,
         64,
         &[
             (DIV_U, TOP, LOWEST, 1),
@@ -130,7 +125,6 @@ fn sixty_four_bits(rt: HostRuntime) -> Result<(), Fail> {
         ],
     )?;
     give(
-        &rt,
         64,
         &[
             (DIV_S, TOP - 6, 2, TOP - 2),
@@ -140,7 +134,6 @@ fn sixty_four_bits(rt: HostRuntime) -> Result<(), Fail> {
         ],
     )?;
     give(
-        &rt,
         64,
         &[
             (EQ, TOP, TOP, 1),
@@ -152,7 +145,6 @@ fn sixty_four_bits(rt: HostRuntime) -> Result<(), Fail> {
         ],
     )?;
     give(
-        &rt,
         64,
         &[
             (LT_S, TOP, 0, 1),
@@ -163,51 +155,45 @@ fn sixty_four_bits(rt: HostRuntime) -> Result<(), Fail> {
     )
 }
 
-fn is_number(
-    rt: &impl Abort,
-    res: Result<Value, Fault>,
-    width: u8,
-    number: u64,
-) -> Result<(), Fail> {
-    let v = res?;
-    assert_eq!(rt; v.width(), width);
-    assert_eq!(rt; v.number(), number);
+fn is_number(got: Result<Value, Fault>, width: u8, number: u64) -> Result<(), Fail> {
+    let v = got?;
+    if v.width() != width || v.number() != number {
+        return Err(Fail::new("another number"));
+    }
     Ok(())
 }
 
-fn is_refused(rt: &impl Abort, res: Result<Value, Fault>) -> Result<(), Fail> {
-    match res {
+fn is_refused(got: Result<Value, Fault>) -> Result<(), Fail> {
+    match got {
         Ok(_) => Err(Fail::new("a value")),
-        Err(fault) => {
-            assert_eq!(rt; fault, Fault::NoExactValue);
-            Ok(())
-        },
+        Err(Fault::NoExactValue) => Ok(()),
+        Err(_) => Err(Fail::new("another fault")),
     }
 }
 
 #[test]
-fn bits(rt: HostRuntime) -> Result<(), Fail> {
+fn bits() -> Result<(), Fail> {
     let bit = Value::from_bits(1, 1)?;
     let wide = Value::from_bits(64, LOWEST)?;
-    is_number(&rt, not(bit), 1, 0)?;
-    is_number(&rt, not(wide), 64, LOWEST - 1)?;
-    is_number(&rt, extend(Extension::Zeros, bit, 64), 64, 1)?;
-    is_number(&rt, extend(Extension::Sign, bit, 64), 64, TOP)?;
-    is_refused(&rt, extend(Extension::Zeros, bit, 65))?;
-    is_refused(&rt, extend(Extension::Sign, wide, 64))?;
-    is_number(&rt, restrict(wide, 63, 63), 1, 1)?;
-    is_number(&rt, restrict(wide, 0, 63), 64, LOWEST)
+    is_number(not(bit), 1, 0)?;
+    is_number(not(wide), 64, LOWEST - 1)?;
+    is_number(extend(Extension::Zeros, bit, 64), 64, 1)?;
+    is_number(extend(Extension::Sign, bit, 64), 64, TOP)?;
+    is_refused(extend(Extension::Zeros, bit, 65))?;
+    is_refused(extend(Extension::Sign, wide, 64))?;
+    is_number(restrict(wide, 63, 63), 1, 1)?;
+    is_number(restrict(wide, 0, 63), 64, LOWEST)
 }
 
 #[test]
-fn joins(rt: HostRuntime) -> Result<(), Fail> {
+fn joins() -> Result<(), Fail> {
     let bit = Value::from_bits(1, 1)?;
     let wide = Value::from_bits(64, LOWEST)?;
     let most = Value::from_bits(63, 1)?;
-    is_number(&rt, concatenate(bit, bit), 2, 3)?;
-    is_number(&rt, concatenate(most, bit), 64, LOWEST + 1)?;
-    is_number(&rt, concatenate(bit, most), 64, 3)?;
-    is_refused(&rt, concatenate(wide, bit))?;
-    is_refused(&rt, restrict(wide, 0, 64))?;
-    is_refused(&rt, restrict(wide, 1, 0))
+    is_number(concatenate(bit, bit), 2, 3)?;
+    is_number(concatenate(most, bit), 64, LOWEST + 1)?;
+    is_number(concatenate(bit, most), 64, 3)?;
+    is_refused(concatenate(wide, bit))?;
+    is_refused(restrict(wide, 0, 64))?;
+    is_refused(restrict(wide, 1, 0))
 }

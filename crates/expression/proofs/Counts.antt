@@ -9,7 +9,7 @@ use Rattle.expression.specs.declared.nodes.Node.TheVariants.{Constant, Variable,
 use Rattle.expression.specs.declared.stops.Cause.{Cause}
 use Rattle.expression.specs.declared.stops.Cause.TheVariants.{Outside, Full}
 use Rattle.expression.specs.declared.stops.Stopped.{Stopped}
-use Rattle.expression.specs.Walk.{Arith, most_held, pushed, on_one, on_two, with_memory, stepped, at_node, runs, ended, stop, spanned, spans, walked_inside}
+use Rattle.expression.specs.Walk.{Arith, most_items, pushed, on_one, on_two, with_memory, stepped, at_node, runs, ended, stop, spanned, spans, walked_inside}
 use Rattle.expression.specs.Heights.{after_node, peak, Peaks}
 use Rattle.expression.proofs.Follow.{not_ok, same}
 
@@ -35,18 +35,18 @@ peak_more d nodes i held most h le =
 module _ {I F : Type 0} (a : Arith I F) where
   -- what a node left: the items are counted, and there was room
   abbrev Left : ℕ → List I → Type 0
-  Left h t = (length t ≡ h) × (length t ≤ most_held)
+  Left h t = (length t ≡ h) × (length t ≤ most_items)
 
-  room : (x : I) (s t : List I) (b : Bool) → b ≡ ltb (length s) most_held → ◌≡◌ {A = Result (List I) (Cause F)} (cond b (Ok (x ∷ s)) (Err Full)) (Ok t) → Left (length s + 1) t
+  room : (x : I) (s t : List I) (b : Bool) → b ≡ ltb (length s) most_items → ◌≡◌ {A = Result (List I) (Cause F)} (cond b (Ok (x ∷ s)) (Err Full)) (Ok t) → Left (length s + 1) t
   room x s t true e p =
       let q : x ∷ s ≡ t = same p in
       let l : length t ≡ length s + 1 = ap length (sym q) ∙ omega arith in
-      let r = ltb-true (length s) most_held (sym e) in
+      let r = ltb-true (length s) most_items (sym e) in
       (l, omega arith)
   room x s t false e p = not_ok p
 
   push_left : (layer : Layer) (got : Result I F) (s t : List I) → pushed layer got s ≡ Ok t → Left (length s + 1) t
-  push_left layer (Ok x) s t p = room x s t (ltb (length s) most_held) refl p
+  push_left layer (Ok x) s t p = room x s t (ltb (length s) most_items) refl p
   push_left layer (Err f) s t p = not_ok p
 
   one_left : (layer : Layer) (f : I → Result I F) (s t : List I) → on_one layer f s ≡ Ok t → Left (length s) t
@@ -67,7 +67,7 @@ module _ {I F : Type 0} (a : Arith I F) where
   there (Err f) r t p = not_ok p
 
   step_left : (n : Node) (s t : List I) → stepped a n s ≡ Ok t → Left (after_node n (length s)) t
-  step_left (Constant c) s t p = push_left Arithmetic (a.constant c) s t (roomy (ltb (length s) most_held) _ t p)
+  step_left (Constant c) s t p = push_left Arithmetic (a.constant c) s t (roomy (ltb (length s) most_items) _ t p)
   step_left (Variable v) s t p = push_left Arithmetic (a.variable v) s t p
   step_left (Read r) s t p = one_left _ (a.read r) s t (there a.memory _ t p)
   step_left (Unary o) s t p = one_left _ (a.unary o) s t p
@@ -89,7 +89,7 @@ module _ {I F : Type 0} (a : Arith I F) where
       let e : peak (length w.0) ns ≡ peak (after_node n (length s)) ns = ap (λ h. peak h ns) l.0 in
       omega arith
 
-  in_room : (ns : List Node) (i : ℕ) (s t : List I) → length s ≤ most_held → runs a i ns s ≡ Ok t → peak (length s) ns ≤ most_held
+  in_room : (ns : List Node) (i : ℕ) (s t : List I) → length s ≤ most_items → runs a i ns s ≡ Ok t → peak (length s) ns ≤ most_items
   in_room [] i s t b p = b
   in_room (n ∷ ns) i s t b p =
       let w = went_on (i + 1) (stepped a n s) (λ u. runs a (i + 1) ns u) t p in

@@ -8,7 +8,7 @@ use Rattle.expression.specs.declared.stops.Cause.{Cause}
 use Rattle.expression.specs.declared.stops.Cause.TheVariants.{Outside, Full}
 use Rattle.expression.specs.declared.stops.Defect.{Defect}
 use Rattle.expression.specs.declared.stops.Stopped.{Stopped}
-use Rattle.expression.specs.Walk.{Arith, most_held, pushed, on_one, on_two, with_memory, stepped, at_node, runs, only, ended, spans, spanned, stop, walked_inside}
+use Rattle.expression.specs.Walk.{Arith, most_items, pushed, on_one, on_two, with_memory, stepped, at_node, runs, only, ended, spans, spanned, stop, walked_inside}
 use Rattle.expression.specs.Widths.{Fit, Sound, width_arith, width_unary}
 use Rattle.expression.specs.Follow.{Own, Both, Follows, Passed, Stays, Keeps}
 
@@ -46,7 +46,7 @@ module _ {I J : Type 0} (F G : Type 0) (R : I → J → Type 0) where
   put false x y s t u h st e = not_ok e
 
   push_on : (l m : Layer) (gi : Result I F) (gj : Result J G) (s : List I) (t u : List J) → Both R gi gj → Stacks s t → pushed m gj t ≡ Ok u → After (pushed l gi s) u
-  push_on l m (Ok x) (Ok y) s t u h st e = put (ltb (length s) most_held) x y s t u h st (ap (λ k. cond (ltb k most_held) (Ok (y ∷ t)) (Err Full)) (as_long s t st) ∙ e)
+  push_on l m (Ok x) (Ok y) s t u h st e = put (ltb (length s) most_items) x y s t u h st (ap (λ k. cond (ltb k most_items) (Ok (y ∷ t)) (Err Full)) (as_long s t st) ∙ e)
   push_on l m (Ok x) (Err g) s t u h st e = not_ok e
   push_on l m (Err f) (Ok y) s t u h st e = tt
   push_on l m (Err f) (Err g) s t u h st e = not_ok e
@@ -81,8 +81,8 @@ module _ {I J : Type 0} (F G : Type 0) (R : I → J → Type 0) where
   module _ (a : Arith I F) (b : Arith J G) (along : Follows R a b) where
     step_on : (n : Node) (s : List I) (t u : List J) → Stacks s t → stepped b n t ≡ Ok u → After (stepped a n s) u
     step_on (Constant c) s t u st e =
-        room_on (ltb (length s) most_held) _ (pushed Arithmetic (b.constant c) t) u (push_on Arithmetic Arithmetic (a.constant c) (b.constant c) s t u (along.constant_on c) st)
-        (ap (λ k. cond (ltb k most_held) (pushed Arithmetic (b.constant c) t) (Err Full)) (as_long s t st) ∙ e)
+        room_on (ltb (length s) most_items) _ (pushed Arithmetic (b.constant c) t) u (push_on Arithmetic Arithmetic (a.constant c) (b.constant c) s t u (along.constant_on c) st)
+        (ap (λ k. cond (ltb k most_items) (pushed Arithmetic (b.constant c) t) (Err Full)) (as_long s t st) ∙ e)
     step_on (Variable v) s t u st e = push_on Arithmetic Arithmetic (a.variable v) (b.variable v) s t u (along.variable_on v) st e
     step_on (Read r) s t u st e = memory_on a.memory b.memory _ (on_one Memory (b.read r) t) u (one_on Memory (a.read r) (b.read r) (along.read_on r) s t u st) e
     step_on (Unary o) s t u st e = one_on Arithmetic (a.unary o) (b.unary o) (along.unary_on o) s t u st e

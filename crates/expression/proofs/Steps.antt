@@ -13,7 +13,7 @@ use Rattle.expression.specs.declared.nodes.Span.{Span}
 use Rattle.expression.specs.declared.stops.Cause.{Cause}
 use Rattle.expression.specs.declared.stops.Cause.TheVariants.{Missing, Full, NotOne}
 use Rattle.expression.specs.declared.stops.Stopped.{Stopped}
-use Rattle.expression.specs.Walk.{most_held, held, pushed, Arith, on_one, on_two, with_memory, stepped, Stepped, runs, at_node, only, stop, ended, spanned, walked_inside}
+use Rattle.expression.specs.Walk.{most_items, held, pushed, Arith, on_one, on_two, with_memory, stepped, Stepped, runs, at_node, only, stop, ended, spanned, walked_inside}
 use Rattle.expression.proofs.Held.{length_held, held_top}
 
 top : {I : Type 0} (d : ℕ) (xs : List I) → d ≤ length xs → (x : I) → 0 < d → x ≡ get_or xs (d - 1) x → held d xs ≡ x ∷ held (d - 1) xs
@@ -40,11 +40,11 @@ module _ {I F : Type 0} (d : ℕ) (xs : List I) (long : d ≤ length xs) where
   two_missing f h = few f (held d xs) (let l = length_held d xs long in omega arith)
 
   -- a constant, where there is no room, and where there is
-  pub constant_full : (a : Arith I F) (c : Literal) → d ≡ most_held → stepped a (Constant c) (held d xs) ≡ Err Full
-  constant_full a c e = let n = length_held d xs long in cond-false (ltb (length (held d xs)) most_held) _ _ (le-ltb _ _ (omega arith))
+  pub constant_full : (a : Arith I F) (c : Literal) → d ≡ most_items → stepped a (Constant c) (held d xs) ≡ Err Full
+  constant_full a c e = let n = length_held d xs long in cond-false (ltb (length (held d xs)) most_items) _ _ (le-ltb _ _ (omega arith))
 
-  pub constant_room : (a : Arith I F) (c : Literal) → d < most_held → stepped a (Constant c) (held d xs) ≡ pushed Arithmetic (a.constant c) (held d xs)
-  constant_room a c h = let n = length_held d xs long in cond-true (ltb (length (held d xs)) most_held) _ _ (lt-ltb _ _ (omega arith))
+  pub constant_room : (a : Arith I F) (c : Literal) → d < most_items → stepped a (Constant c) (held d xs) ≡ pushed Arithmetic (a.constant c) (held d xs)
+  constant_room a c h = let n = length_held d xs long in cond-true (ltb (length (held d xs)) most_items) _ _ (lt-ltb _ _ (omega arith))
 
   -- a read, where there is a memory
   pub read_there : (a : Arith I F) (r : Access) (m : Result (Unit {0}) F) (u : Unit {0}) → m ≡ a.memory → m ≡ Ok u → stepped a (Read r) (held d xs) ≡ on_one Memory (a.read r) (held d xs)

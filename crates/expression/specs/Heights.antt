@@ -3,7 +3,7 @@ use Rattle.std.specs.Prelude.{◌≡◌, ℕ, ◌+◌, ◌-◌, ◌≤◌, max, 
 use Rattle.expression.specs.declared.nodes.Node.{Node}
 use Rattle.expression.specs.declared.nodes.Node.TheVariants.{Constant, Variable, Read, Unary, Binary, Concatenate}
 use Rattle.expression.specs.declared.nodes.Span.{Span}
-use Rattle.expression.specs.Walk.{Arith, most_held, runs, spanned, walked}
+use Rattle.expression.specs.Walk.{Arith, most_items, runs, spanned, walked}
 
 -- the items held after a node, of h before it
 abbrev pub after_node : Node → ℕ → ℕ
@@ -23,4 +23,4 @@ peak h (n ∷ ns) = max h (peak (after_node n h) ns)
 -- most 32.
 pub record Peaks {I F : Type 0} (a : Arith I F) : Type 0 where
   pub no_more : (nodes : List Node) (s : Span) (k : ℕ) (held : List I) → runs a s.first (take k (spanned nodes s)) [] ≡ Ok held → length held ≤ peak 0 (spanned nodes s)
-  pub in_room : (nodes : List Node) (s : Span) (x : I) → walked a nodes s ≡ Ok x → peak 0 (spanned nodes s) ≤ most_held
+  pub in_room : (nodes : List Node) (s : Span) (x : I) → walked a nodes s ≡ Ok x → peak 0 (spanned nodes s) ≤ most_items

@@ -15,8 +15,8 @@ use Rattle.expression.specs.declared.stops.Cause.TheVariants.{Outside, Missing, 
 use Rattle.expression.specs.declared.stops.Stopped.{Stopped}
 
 -- the most items that a walk holds, and the most nodes of a table
-abbrev pub most_held : ℕ
-most_held = 32
+abbrev pub most_items : ℕ
+most_items = 32
 
 abbrev pub most_nodes : ℕ
 most_nodes = 512
@@ -33,7 +33,7 @@ pub record Arith (I F : Type 0) : Type 0 where
 
 -- one more item, where there is room
 abbrev pub pushed : {I F : Type 0} → Layer → Result I F → List I → Result (List I) (Cause F)
-pushed layer (Ok x) s = cond (nat_lt (length s) most_held) (Ok (x ∷ s)) (Err Full)
+pushed layer (Ok x) s = cond (nat_lt (length s) most_items) (Ok (x ∷ s)) (Err Full)
 pushed layer (Err f) s = Err (Fault layer f)
 
 -- a node that takes one operand, and one that takes two, of which the right one is on top
@@ -53,7 +53,7 @@ with_memory (Err f) r = Err (Fault Memory f)
 
 -- one node, over the items held, the last of which stands first
 abbrev pub stepped : {I F : Type 0} → Arith I F → Node → List I → Result (List I) (Cause F)
-stepped a (Constant c) s = cond (nat_lt (length s) most_held) (pushed Arithmetic (a.constant c) s) (Err Full)
+stepped a (Constant c) s = cond (nat_lt (length s) most_items) (pushed Arithmetic (a.constant c) s) (Err Full)
 stepped a (Variable v) s = pushed Arithmetic (a.variable v) s
 stepped a (Read r) s = with_memory a.memory (on_one Memory (a.read r) s)
 stepped a (Unary o) s = on_one Arithmetic (a.unary o) s
@@ -106,5 +106,5 @@ held d xs = reverse (take d xs)
 
 -- what is left of a node: the new depth over the changed stack, or the cause at the node
 abbrev pub Stepped : {I F : Type 0} → ℕ → List I → Result ℕ (Stopped F) → Result (List I) (Cause F) → Type 0
-Stepped node after (Ok d) want = (d ≤ most_held) × (want ≡ Ok (held d after))
+Stepped node after (Ok d) want = (d ≤ most_items) × (want ≡ Ok (held d after))
 Stepped node after (Err e) want = (e.node ≡ node) × (want ≡ Err e.cause)

@@ -3,7 +3,7 @@ use Rattle.std.proofs.Common.{◌≡◌, ℕ, ◌≤◌, true, List, [], ◌∷�
 use Rattle.std.specs.List.{AllByRecursion}
 use Rattle.expression.specs.declared.nodes.Node.{Node}
 use Rattle.expression.specs.declared.nodes.Span.{Span}
-use Rattle.expression.specs.Walk.{most_held, spanned, walked}
+use Rattle.expression.specs.Walk.{most_items, spanned, walked}
 use Rattle.expression.specs.Widths.{width_arith}
 use Rattle.expression.specs.Heights.{peak}
 use Rattle.expression.proofs.Counts.{peaks}
@@ -22,24 +22,24 @@ use Rattle.model.proofs.Exactly.{exact}
 
 -- what walks is in room
 module _ (ws : List ℕ) (ns : List Node) where
-  expressed_peak : (s : Span) (w : ℕ) → expressed ws ns s ≡ Ok w → peak 0 (spanned ns s) ≤ most_held
+  expressed_peak : (s : Span) (w : ℕ) → expressed ws ns s ≡ Ok w → peak 0 (spanned ns s) ≤ most_items
   expressed_peak s w e = (peaks (width_arith true ws)).in_room ns s w (unobjected (walked (width_arith true ws) ns s) w e)
 
-  right_peak : (o : Option Span) (w : ℕ) → right_width ws ns o ≡ Ok w → expression_peak ns o ≤ most_held
+  right_peak : (o : Option Span) (w : ℕ) → right_width ws ns o ≡ Ok w → expression_peak ns o ≤ most_items
   right_peak None w e = omega arith
   right_peak (Some s) w e = expressed_peak s w e
 
-  left_peak : (o : Option Left) (s : Side) → left_side ws ns o ≡ Ok s → expression_peak ns (address_in o) ≤ most_held
+  left_peak : (o : Option Left) (s : Side) → left_side ws ns o ≡ Ok s → expression_peak ns (address_in o) ≤ most_items
   left_peak None s e = omega arith
   left_peak (Some (Variable v)) s e = omega arith
   left_peak (Some (Bytes k a)) s e = let (w, p, _) = went_on (expressed ws ns a) _ s e in expressed_peak a w p
 
-  typed_peak : (a : Action) → Typed ws ns a → action_peak ns a ≤ most_held
+  typed_peak : (a : Action) → Typed ws ns a → action_peak ns a ≤ most_items
   typed_peak a t =
       let (w, p, s, q, _) = found ws ns a t in
       omega (arith, right_peak (right_of a) w p, left_peak (left_of a) s q)
 
-  few : (is : List Instruction) → AllByRecursion (λ x. Typed ws ns x.action) is → deepest ns is ≤ most_held
+  few : (is : List Instruction) → AllByRecursion (λ x. Typed ws ns x.action) is → deepest ns is ≤ most_items
   few [] h = omega arith
   few (x ∷ xs) (t, ts) = omega (arith, typed_peak x.action t, few xs ts)
 

@@ -4,7 +4,7 @@ use Rattle.std.specs.List.{AllByRecursion}
 use Rattle.answer.specs.declared.standings.Address.{Address}
 use Rattle.expression.specs.declared.nodes.Node.{Node}
 use Rattle.expression.specs.declared.nodes.Span.{Span}
-use Rattle.expression.specs.Walk.{most_held, spanned}
+use Rattle.expression.specs.Walk.{most_items, spanned}
 use Rattle.expression.specs.Heights.{peak}
 use Rattle.instruction.specs.declared.tables.Action.{Action}
 use Rattle.instruction.specs.declared.tables.Instruction.{Instruction}
@@ -19,7 +19,7 @@ pub record Holds (ns : List Node) (d : ℕ) (a : Action) : Type 0 where
 
 -- at most 32 items, and no walk of the model holds more
 pub record Enough (ns : List Node) (is : List Instruction) (d : ℕ) : Type 0 where
-  pub few : d ≤ most_held
+  pub few : d ≤ most_items
   pub all : AllByRecursion (λ x. Holds ns d x.action) is
 
 abbrev pub DeepEnough : Type 0

@@ -1,5 +1,5 @@
 -- Not, extension, restriction and concatenation.
-use Rattle.std.specs.Prelude.{ℕ, ◌+◌, ◌-◌, ◌*◌, ◌/◌, ◌%◌, ◌^◌, Bool, true, not, ◌&&◌, ◌||◌, ltb, ℤ, pos, Ok, Err, ◌==◌, nat_le, nat_lt}
+use Rattle.std.specs.Prelude.{ℕ, ◌+◌, ◌-◌, ◌*◌, ◌/◌, ◌%◌, ◌^◌, Bool, true, not, ◌&&◌, ◌||◌, ℤ, pos, Ok, Err, ◌==◌, nat_le, nat_lt}
 use Rattle.answer.specs.declared.faults.Fault.TheVariants.{NoExactValue}
 use Rattle.answer.specs.First.{◌gives◌else◌}
 use Rattle.value.specs.declared.rows.Region.TheVariants.{Cst}
@@ -50,7 +50,7 @@ continues a b = same a.region b.region && (a.number == b.number && b.low == a.hi
 -- a in the lowest bits, and b above it
 abbrev pub concatenated : Row → Row → Outcome
 concatenated a b =
-    ltb widest (width a + width b) gives Err NoExactValue else
+    nat_lt widest (width a + width b) gives Err NoExactValue else
     undefined a || undefined b gives Ok (undefined_row (width a + width b)) else
     cst a.region && cst b.region gives Ok (plain Cst (width a + width b) (a.number + b.number * 2 ^ width a)) else
     continues a b gives Ok (piece a a.low b.high) else

@@ -10,7 +10,7 @@ use Rattle.expression.specs.declared.nodes.Span.{Span}
 use Rattle.expression.specs.declared.stops.Cause.{Cause}
 use Rattle.expression.specs.declared.stops.Cause.TheVariants.{Missing}
 use Rattle.expression.specs.declared.stops.Defect.{Defect}
-use Rattle.expression.specs.Walk.{most_held, pushed, with_memory, stepped, walked}
+use Rattle.expression.specs.Walk.{most_items, pushed, with_memory, stepped, walked}
 use Rattle.expression.specs.Widths.{width_arith}
 use Rattle.tree.specs.Trees.{Tree, constant_leaf, variable_leaf, read_at, unary_of, binary_of, joined, postfix, needs, HasWidth, Expresses}
 use Rattle.tree.proofs.Rules.{constant_rule, variable_rule, read_rule, unary_rule, binary_rule, concatenation_rule}
@@ -18,7 +18,7 @@ use Rattle.expression.proofs.Follow.{not_ok}
 use Rattle.tree.proofs.Goes.{Goes, done, next, goes_on, from_walked, to_walked}
 
 -- a width that a rule gives is put on the stack, where there is room
-pushes : {r : Result ℕ Defect} {w : ℕ} (layer : Layer) (s : List ℕ) → r ≡ Ok w → length s < most_held → pushed layer r s ≡ Ok (w ∷ s)
+pushes : {r : Result ℕ Defect} {w : ℕ} (layer : Layer) (s : List ℕ) → r ≡ Ok w → length s < most_items → pushed layer r s ≡ Ok (w ∷ s)
 pushes layer s e h = rw e (grind (arith, nat_tests))
 
 needs_some : (t : Tree) → 1 ≤ needs t
@@ -31,7 +31,7 @@ needs_some (joined t u) = omega arith
 
 -- From a tree to the walk: its nodes put its width on the stack.
 module _ (reads : Bool) (ws : List ℕ) where
-  walks : (t : Tree) (w : ℕ) (s : List ℕ) → HasWidth reads ws t w → length s + needs t ≤ most_held → Goes (width_arith reads ws) (postfix t) s (w ∷ s)
+  walks : (t : Tree) (w : ℕ) (s : List ℕ) → HasWidth reads ws t w → length s + needs t ≤ most_items → Goes (width_arith reads ws) (postfix t) s (w ∷ s)
   walks (constant_leaf c) w s h room = next (let p = pushes Arithmetic s ((constant_rule c w).1 h) (omega arith) in grind (arith, nat_tests)) done
   walks (variable_leaf v) w s h room = next (pushes Arithmetic s ((variable_rule reads ws v w).1 h) (omega arith)) done
   walks (read_at r t) w s h room =
@@ -57,7 +57,7 @@ module _ (reads : Bool) (ws : List ℕ) where
 -- those below it.
 data Built (reads : Bool) (ws : List ℕ) : List Node → List ℕ → Type 0 where
   none : Built reads ws [] []
-  more : {ns : List Node} {s : List ℕ} {w : ℕ} → Built reads ws ns s → (t : Tree) → HasWidth reads ws t w → length s + needs t ≤ most_held → Built reads ws (ns ++ postfix t) (w ∷ s)
+  more : {ns : List Node} {s : List ℕ} {w : ℕ} → Built reads ws ns s → (t : Tree) → HasWidth reads ws t w → length s + needs t ≤ most_items → Built reads ws (ns ++ postfix t) (w ∷ s)
 
 -- a read that goes on has its memory
 has_memory : {u : List ℕ} (reads : Bool) (ws : List ℕ) (r : Result (List ℕ) (Cause Defect)) → with_memory (width_arith reads ws).memory r ≡ Ok u → (reads ≡ true) × (r ≡ Ok u)
@@ -66,7 +66,7 @@ has_memory false ws r e = not_ok e
 
 -- From the walk to a tree: each node makes one tree of those on top.
 module _ (reads : Bool) (ws : List ℕ) where
-  after_push : {ns : List Node} {u : List ℕ} (layer : Layer) (r : Result ℕ Defect) (s : List ℕ) → ((w : ℕ) → r ≡ Ok w → length s < most_held → Built reads ws ns (w ∷ s)) → pushed layer r s ≡ Ok u → Built reads ws ns u
+  after_push : {ns : List Node} {u : List ℕ} (layer : Layer) (r : Result ℕ Defect) (s : List ℕ) → ((w : ℕ) → r ≡ Ok w → length s < most_items → Built reads ws ns (w ∷ s)) → pushed layer r s ≡ Ok u → Built reads ws ns u
   after_push {ns} layer (Ok w) s f e = subst (Built reads ws ns) (grind (arith, nat_tests)) (f w refl (grind (arith, nat_tests)))
   after_push layer (Err d) s f e = not_ok e
 
@@ -98,7 +98,7 @@ module _ (reads : Bool) (ws : List ℕ) where
   built b done = rw append-nil b
   built b (next {n} e g) = rw append_assoc at (built (built_one n b e) g)
 
-  the_tree : {ns : List Node} {w : ℕ} → Built reads ws ns (w ∷ []) → (t : Tree) × (postfix t ≡ ns) × HasWidth reads ws t w × (needs t ≤ most_held)
+  the_tree : {ns : List Node} {w : ℕ} → Built reads ws ns (w ∷ []) → (t : Tree) × (postfix t ≡ ns) × HasWidth reads ws t w × (needs t ≤ most_items)
   the_tree (more none t h room) = (t, refl, h, omega arith)
 
   pub only_expressions : (nodes : List Node) (s : Span) (w : ℕ) → walked (width_arith reads ws) nodes s ≡ Ok w → Expresses reads ws nodes s w

@@ -12,7 +12,7 @@ use Rattle.expression.specs.declared.nodes.UnaryOp.TheVariants.{Not, Extend, Res
 use Rattle.expression.specs.declared.nodes.Node.{Node}
 use Rattle.expression.specs.declared.nodes.Node.TheVariants.{Constant, Variable, Read, Unary, Binary, Concatenate}
 use Rattle.expression.specs.declared.nodes.Span.{Span}
-use Rattle.expression.specs.Walk.{most_held, most_nodes, spanned, walked}
+use Rattle.expression.specs.Walk.{most_items, most_nodes, spanned, walked}
 use Rattle.expression.specs.Widths.{most_bytes, declared_width, width_arith}
 
 -- an expression: a node over the expressions that it takes
@@ -78,7 +78,7 @@ pub record Expresses (reads : Bool) (ws : List ℕ) (nodes : List Node) (s : Spa
   pub tree : Tree
   pub nodes_are : postfix tree ≡ spanned nodes s
   pub rules : HasWidth reads ws tree w
-  pub room : needs tree ≤ most_held
+  pub room : needs tree ≤ most_items
 
 -- the walk in bare widths gives a width exactly where the nodes are an expression of that width
 pub record PassesExactly : Type 0 where

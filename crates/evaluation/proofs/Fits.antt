@@ -5,10 +5,9 @@ use Rattle.answer.specs.declared.faults.Fault.TheVariants.{NoExactValue}
 use Rattle.value.specs.declared.rows.Row.{Row}
 use Rattle.value.specs.Rows.{Outcome, sound, width}
 use Rattle.operator.specs.Bits.{inverted, extended, restricted}
-use Rattle.expression.specs.declared.nodes.UnaryOp.{UnaryOp}
 use Rattle.expression.specs.declared.nodes.UnaryOp.TheVariants.{Not, Extend, Restrict}
-use Rattle.expression.specs.Widths.{Fit, by_rule, width_unary}
-use Rattle.evaluation.specs.Values.{of_value, unary_row}
+use Rattle.expression.specs.Widths.{Fit, by_rule}
+use Rattle.evaluation.specs.Values.{of_value, unary_row, UnaryFits}
 
 -- a row, where there is one, has the width w
 abbrev pub Wide : ℕ → Outcome → Type 0
@@ -29,7 +28,7 @@ wide_cond false w o p h k = k refl
 wide_value : (w : ℕ) (x : Row) (o : Outcome) → (sound x ≡ true → Wide w o) → Wide w (of_value x o)
 wide_value w x o h = wide_cond (sound x) w o (Err NoExactValue) h (λ _. tt)
 
-wide_unary : (o : UnaryOp) (x : Row) → Fit width (width_unary o (width x)) (unary_row o x)
+pub wide_unary : UnaryFits
 wide_unary Not x = fit_rule true (width x) (unary_row Not x) (λ h. wide_value (width x) x (inverted x) (λ s. grind (arith, nat_tests)))
 wide_unary (Extend how k) x = fit_rule (ltb (width x) k && leb k 64) k (unary_row (Extend how k) x) (λ h. wide_value k x (extended how x k) (λ s. grind (arith, nat_tests)))
 wide_unary (Restrict i j) x = fit_rule (leb i j && ltb j (width x)) (j - i + 1) (unary_row (Restrict i j) x) (λ h. wide_value (j - i + 1) x (restricted x i j) (λ s. grind (arith, nat_tests)))

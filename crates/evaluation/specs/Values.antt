@@ -7,7 +7,7 @@ use Rattle.value.specs.declared.rows.Region.{Region}
 use Rattle.value.specs.declared.rows.Region.TheVariants.{Cst, Stack}
 use Rattle.value.specs.declared.rows.Row.{Row}
 use Rattle.value.specs.declared.rows.RegionRecord.{RegionRecord}
-use Rattle.value.specs.Rows.{Outcome, sound, plain}
+use Rattle.value.specs.Rows.{Outcome, sound, plain, width}
 use Rattle.operator.specs.declared.ops.BinaryOp.{BinaryOp}
 use Rattle.operator.specs.Rules.{applied}
 use Rattle.operator.specs.Bits.{inverted, extended, restricted, concatenated}
@@ -17,7 +17,7 @@ use Rattle.expression.specs.declared.nodes.Literal.{Literal}
 use Rattle.expression.specs.declared.nodes.UnaryOp.{UnaryOp}
 use Rattle.expression.specs.declared.nodes.UnaryOp.TheVariants.{Not, Extend, Restrict}
 use Rattle.expression.specs.Walk.{Arith}
-use Rattle.expression.specs.Widths.{literal_fits}
+use Rattle.expression.specs.Widths.{literal_fits, Fit, width_unary}
 
 abbrev pub region_of : fixed.FixedRegion → Region
 region_of fixed_regions.Cst = Cst
@@ -39,6 +39,10 @@ abbrev pub unary_row : UnaryOp → Row → Outcome
 unary_row Not x = of_value x (inverted x)
 unary_row (Extend how k) x = of_value x (extended how x k)
 unary_row (Restrict i j) x = of_value x (restricted x i j)
+
+-- where the rule of a node of one operand gives a width, an item that the node gives has that width
+abbrev pub UnaryFits : Type 0
+UnaryFits = (o : UnaryOp) (x : Row) → Fit width (width_unary o (width x)) (unary_row o x)
 
 -- with the malloc regions of the run
 abbrev pub binary_row : List RegionRecord → BinaryOp → Row → Row → Outcome

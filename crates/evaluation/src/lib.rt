@@ -1,6 +1,9 @@
-// Expressions worked out in values.
+// Values as items of a walk, each held as its row. Of their law of widths stands here what holds of one operand.
 #![tactic(auto)]
 
-ghost use Rattle.evaluation.specs.Values.{lone_arith};
+ghost use Rattle.evaluation.specs.Values.{UnaryFits};
 
-pub fn nothing() {}
+// A node of one operand gives an item of the width that its rule states, or a fault.
+pub fn unary_fits()
+    ensures { UnaryFits }
+{}

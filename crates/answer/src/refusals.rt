@@ -1,51 +1,35 @@
 ghost use Rattle.std.specs.Prelude.{◌≡◌};
-ghost use Rattle.answer.specs.Numbers.{reason_number, place_number};
+ghost use Rattle.answer.specs.Numbers.{reason_number, place_number, placed_number, node_number};
 
+use crate::faults::close_at_node;
 use std::fmt;
 
 // Why a call is refused: 1 to 10 for what it was handed, 11 to 16 for the state of the machine.
 #[derive(Clone, Copy, PartialEq, Eq)]
 pub enum Reason {
-    TableSize,
-    DeclaredWidth,
-    AddressOrder,
-    Unresolved,
-    ItemCount,
-    RuleBroken,
-    BadTarget,
-    BadPresets,
-    TargetDenied,
-    NoSuchVariable,
-    NotLoaded,
-    AlreadyLoaded,
-    OtherModel,
-    Halted,
-    PeekDenied,
-    PeekOutside,
+    TableSize = 1,
+    DeclaredWidth = 2,
+    AddressOrder = 3,
+    Unresolved = 4,
+    ItemCount = 5,
+    RuleBroken = 6,
+    BadTarget = 7,
+    BadPresets = 8,
+    TargetDenied = 9,
+    NoSuchVariable = 10,
+    NotLoaded = 11,
+    AlreadyLoaded = 12,
+    OtherModel = 13,
+    Halted = 14,
+    PeekDenied = 15,
+    PeekOutside = 16,
 }
 
 impl Reason {
     pub fn number(&self) -> u8
         ensures { result ≡ reason_number self.now }
     {
-        match self {
-            Reason::TableSize => 1,
-            Reason::DeclaredWidth => 2,
-            Reason::AddressOrder => 3,
-            Reason::Unresolved => 4,
-            Reason::ItemCount => 5,
-            Reason::RuleBroken => 6,
-            Reason::BadTarget => 7,
-            Reason::BadPresets => 8,
-            Reason::TargetDenied => 9,
-            Reason::NoSuchVariable => 10,
-            Reason::NotLoaded => 11,
-            Reason::AlreadyLoaded => 12,
-            Reason::OtherModel => 13,
-            Reason::Halted => 14,
-            Reason::PeekDenied => 15,
-            Reason::PeekOutside => 16,
-        }
+        *self as u8
     }
 
     // What a tester reads beside the number.
@@ -75,16 +59,13 @@ impl Reason {
 
 impl fmt::Display for Reason {
     fn fmt<W: fmt::Write>(&self, f: &mut fmt::Formatter<W>) -> fmt::Result {
-        let number = self.number();
-        let meaning = self.meaning();
-        write!(f, "refusal {number}: {meaning}")
+        write!(f, "refusal {}: {}", self.number(), self.meaning())
     }
 }
 
 // What a refusal is about; each kind is counted from 1.
 #[derive(Clone, Copy, PartialEq, Eq)]
 pub enum Place {
-    Nowhere,
     Instruction(u16),
     Condition(u16),
     Variable(u16),
@@ -92,16 +73,12 @@ pub enum Place {
 }
 
 impl Place {
-    // The place as one number, 0 for none.
     pub fn number(&self) -> u16
         ensures { result ≡ place_number self.now }
     {
         match *self {
-            Place::Nowhere => 0,
-            Place::Instruction(n) => n,
-            Place::Condition(n) => n,
-            Place::Variable(n) => n,
-            Place::Preset(n) => n,
+            Place::Instruction(n) | Place::Condition(n) | Place::Variable(n) | Place::Preset(n) =>
+                n,
         }
     }
 }
@@ -109,7 +86,6 @@ impl Place {
 impl fmt::Display for Place {
     fn fmt<W: fmt::Write>(&self, f: &mut fmt::Formatter<W>) -> fmt::Result {
         match *self {
-            Place::Nowhere => write!(f, "no place"),
             Place::Instruction(n) => write!(f, "instruction {n}"),
             Place::Condition(n) => write!(f, "condition {n}"),
             Place::Variable(n) => write!(f, "variable {n}"),
@@ -118,22 +94,41 @@ impl fmt::Display for Place {
     }
 }
 
-// A refused call: why, where, and at which node of the node table, counted from 1, 0 where no node is concerned.
+// A refused call: why; where, if at a place; and at which node of the node table, counted from 1, if at one.
 #[derive(Clone, Copy, PartialEq, Eq)]
 pub struct Refusal {
     pub reason: Reason,
-    pub place: Place,
-    pub node: u16,
+    pub place: Option<Place>,
+    pub node: Option<u16>,
+}
+
+impl Refusal {
+    // The place as one number, 0 for none.
+    pub fn place_number(&self) -> u16
+        ensures { result ≡ placed_number self.now.place }
+    {
+        self.place.map_or(0, |place| place.number())
+    }
+
+    // The node as a number, 0 for none.
+    pub fn node_number(&self) -> u16
+        ensures { result ≡ node_number self.now.node }
+    {
+        self.node.unwrap_or(0)
+    }
 }
 
 impl fmt::Display for Refusal {
     fn fmt<W: fmt::Write>(&self, f: &mut fmt::Formatter<W>) -> fmt::Result {
-        let reason = self.reason;
-        let place = self.place;
-        write!(f, "{reason} (at {place}")?;
-        match self.node {
-            0 => write!(f, ")"),
-            node => write!(f, ", node {node})"),
+        let Refusal {
+            reason,
+            place,
+            node,
+        } = *self;
+        match place {
+            None => write!(f, "{reason} (at no place")?,
+            Some(place) => write!(f, "{reason} (at {place}")?,
         }
+        close_at_node(f, node)
     }
 }

@@ -4,8 +4,9 @@ ghost use Rattle.answer.specs.Numbers.{standing_number};
 use crate::faults::Failure;
 use std::fmt;
 
-// Where an instruction stands: a place of the relay's program, and a number within the block at that place.
-#[derive(Clone, Copy, PartialEq, Eq)]
+// Where an instruction stands: a place of the relay's program, and a number within the block at that place. Addresses go
+// up by place, and within a place by number.
+#[derive(Clone, Copy, PartialEq, Eq, PartialOrd, Ord)]
 pub struct Address {
     pub place: u32,
     pub number: u8,
@@ -13,9 +14,7 @@ pub struct Address {
 
 impl fmt::Display for Address {
     fn fmt<W: fmt::Write>(&self, f: &mut fmt::Formatter<W>) -> fmt::Result {
-        let place = self.place;
-        let number = self.number;
-        write!(f, "place {place}, number {number}")
+        write!(f, "place {}, number {}", self.place, self.number)
     }
 }
 

@@ -51,6 +51,12 @@ sound r = cond (cst r.region) (sound_number r) (sound_pointer r)
 abbrev pub Outcome : Type 0
 Outcome = Result Row Fault
 
+-- the row of a value is that value; no other row is one
+abbrev pub value_of : Row → Outcome
+value_of r =
+    sound r gives Ok r else
+    Err NoExactValue
+
 abbrev pub plain : Region → ℕ → ℕ → Row
 plain g w n = record { number = n; region = g; defined = true; low = 0; high = w - 1 }
 

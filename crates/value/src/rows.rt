@@ -1,3 +1,8 @@
+ghost use Rattle.std.specs.Prelude.{◌≡◌};
+ghost use Rattle.value.specs.Rows.{plain, undefined_row, part};
+
+use crate::values::ADDRESS_WIDTH;
+
 // The memory that a value points into. `Malloc(n)` is the n-th region made in a run, counted from 1.
 #[derive(Clone, Copy, PartialEq, Eq)]
 pub enum Region {
@@ -15,6 +20,37 @@ pub struct Row {
     pub defined: bool,
     pub low: u8,
     pub high: u8,
+}
+
+impl Row {
+    // A number, or an offset in a region, of so many bits.
+    pub fn plain(region: Region, width: u8, number: u64) -> Row
+        ensures { result ≡ plain region width number }
+    {
+        Row {
+            number,
+            region,
+            defined: true,
+            low: 0,
+            high: width.saturating_sub(1),
+        }
+    }
+
+    pub fn undefined(width: u8) -> Row
+        ensures { result ≡ undefined_row width }
+    {
+        Row {
+            defined: false,
+            ..Row::plain(Region::Cst, width, 0)
+        }
+    }
+
+    // Whether these are some of the bits of a pointer, and not all.
+    pub fn is_part(&self) -> bool
+        ensures { result ≡ part self.now }
+    {
+        self.region != Region::Cst && !(self.low == 0 && self.high == ADDRESS_WIDTH - 1)
+    }
 }
 
 // One malloc region of a run. A table of them has region n at index n - 1.

@@ -19,21 +19,13 @@ impl fmt::Display for Value {
     fn fmt<W: fmt::Write>(&self, f: &mut fmt::Formatter<W>) -> fmt::Result {
         let row = self.row();
         let number = row.number;
-        let region = row.region;
         let width = self.width();
-        if !row.defined {
-            return write!(f, "undefined<{width}>");
+        match row.region {
+            _ if !row.defined => write!(f, "undefined<{width}>"),
+            Region::Cst => write!(f, "{number}<{width}>"),
+            region if width == ADDRESS_WIDTH => write!(f, "({region},{number})"),
+            region => write!(f, "({region},{number}){{{},{}}}", row.low, row.high),
         }
-        if region == Region::Cst {
-            return write!(f, "{number}<{width}>");
-        }
-        write!(f, "({region},{number})")?;
-        if width == ADDRESS_WIDTH {
-            return Ok(());
-        }
-        let low = row.low;
-        let high = row.high;
-        write!(f, "{{{low},{high}}}")
     }
 }
 

@@ -6,7 +6,8 @@ use crate::values::Value;
 impl Value {
     pub fn width(&self) -> u8
         ensures value { result ≡ width self.now.row }
-        ensures range { (1 ≤ result) × (result ≤ 64) }
+        ensures some { 1 ≤ result }
+        ensures fits { result ≤ 64 }
     {
         let row = self.row();
         row.high - row.low + 1

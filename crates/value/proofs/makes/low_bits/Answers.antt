@@ -6,5 +6,5 @@ use Rattle.value.proofs.makes.low_bits.Goals as goal
 
 pub returns : goal.returns
 returns c =
-    let e = ap (bit_and c.args.bits) (mask_is c.args.width c.requires.1) ∙ and_mask c.args.bits c.args.width in
+    let e = ap (bit_and c.args.bits) (mask_is c.args.width c.requires.fits) ∙ and_mask c.args.bits c.args.width in
     record { value = e; below = subst (λ r. r < 2 ^ c.args.width) (sym e) (mod_below _ _ (pow_pos c.args.width)) }

@@ -8,7 +8,8 @@ use Rattle.value.specs.declared.rows.Region.TheVariants.{Cst}
 use Rattle.value.specs.declared.rows.Row.{Row}
 use Rattle.value.specs.Rows.{Outcome, cst, width, sound, plain, undefined_row}
 use Rattle.operator.specs.Bits.{piece, restricted, concatenated}
-use Rattle.law.specs.Pieces.{and_then, rejoined, Rejoins, Narrows}
+use Rattle.answer.specs.First.{and_then}
+use Rattle.law.specs.Pieces.{rejoined, Rejoins, Narrows}
 use Rattle.law.proofs.Facts.{is_cst, rowwise, in_region, in_cst, undefined_cst, undefined_zero}
 
 -- what a restriction gives of each kind of value

@@ -12,7 +12,7 @@ is_cst Cst h = refl
 is_cst Stack h = absurd (false≢true h)
 is_cst (Malloc n) h = let e = eqb-true (n + 2) 0 h in absurd (omega arith)
 
-pub by_rank : (g h : Region) → rank g ≡ rank h → g ≡ h
+by_rank : (g h : Region) → rank g ≡ rank h → g ≡ h
 by_rank Cst Cst e = refl
 by_rank Cst Stack e = absurd (omega arith)
 by_rank Cst (Malloc n) e = absurd (omega arith)

@@ -34,7 +34,7 @@ wrap_down w m n h l =
     let e : k % 2 ^ w ≡ k = mod-eq_of_lt (omega arith) in
     ap (wrap w) i ∙ ap (λ x. 2 ^ w - 1 - x) e ∙ omega arith
 
-pub wrap_below : (w m n : ℕ) → m < 2 ^ w → n < 2 ^ w → wrap w (pos m -ℤ pos n) < 2 ^ w
+wrap_below : (w m n : ℕ) → m < 2 ^ w → n < 2 ^ w → wrap w (pos m -ℤ pos n) < 2 ^ w
 wrap_below w m n h l =
     elim (cases_lt m n) [
       | inl a ↦ let e = wrap_down w m n a (omega arith) in omega arith
@@ -67,7 +67,7 @@ sum_onward w m n h l =
     ]
 
 -- a result that stays within its region is the rules' own
-pub within_ok : (rs : List RegionRecord) (o : Outcome) (s : Row) → within rs o ≡ Ok s → o ≡ Ok s
+within_ok : (rs : List RegionRecord) (o : Outcome) (s : Row) → within rs o ≡ Ok s → o ≡ Ok s
 within_ok rs (Err e) s h = h
 within_ok rs (Ok r) s h =
     elim (cases_Bool (inside rs r.region r.number)) [
@@ -78,7 +78,7 @@ within_ok rs (Ok r) s h =
 unequal_widths : (op : BinaryOp) (a b : Row) → a.defined ≡ true → b.defined ≡ true → eqb (width a) (width b) ≡ false → by_rules op a b ≡ Err NoExactValue
 unequal_widths op a b d e h = grind (arith, nat_tests)
 
-pub one_width : (op : BinaryOp) (a b s : Row) → a.defined ≡ true → b.defined ≡ true → by_rules op a b ≡ Ok s → width a ≡ width b
+one_width : (op : BinaryOp) (a b s : Row) → a.defined ≡ true → b.defined ≡ true → by_rules op a b ≡ Ok s → width a ≡ width b
 one_width op a b s d e h =
     elim (cases_Bool (eqb (width a) (width b))) [
       | inl t ↦ grind (arith, nat_tests)
@@ -86,7 +86,7 @@ one_width op a b s d e h =
     ]
 
 -- a whole pointer by its region and offset
-pub pointer_is : (p : Row) → Pointer p → p ≡ plain p.region 32 p.number
+pointer_is : (p : Row) → Pointer p → p ≡ plain p.region 32 p.number
 pointer_is p h =
     let f = in_region p h.0 h.1 in
     let l : p.low ≡ 0 = grind (arith, nat_tests) in
@@ -106,9 +106,6 @@ minus_pointer g h m n o p e = grind (arith, nat_tests)
 number_fits : (n : Row) → Number n → width n ≡ 32 → n.number < 2 ^ 32
 number_fits n h w = subst (λ x. n.number < 2 ^ x) w (in_cst n h.0 h.1).fits
 
-same_row : (o : Outcome) (a b : Row) → o ≡ Ok a → o ≡ Ok b → a ≡ b
-same_row o a b p q = cc
-
 pub returns_law : Returns
 returns_law rs p n s t hp hn hs ht =
     let g = p.region in
@@ -119,9 +116,9 @@ returns_law rs p n s t hp hn hs ht =
     let a : by_rules Add p n ≡ Ok s = within_ok rs (by_rules Add p n) s hs in
     let w : width n ≡ 32 = sym (one_width Add p n s f.defined hn.2 a) ∙ ap width i in
     let x = plain g 32 ((m + k) % 2 ^ 32) in
-    let b : s ≡ x = same_row _ s x a (ap (λ r. by_rules Add r n) i ∙ plus_number g m n hp.1 hn w) in
-    let c : by_rules Sub x n ≡ Ok t = ap (λ r. by_rules Sub r n) (sym b) ∙ within_ok rs (by_rules Sub s n) t ht in
-    let d : t ≡ plain g 32 (wrap 32 (pos ((m + k) % 2 ^ 32) -ℤ pos k)) = same_row _ t _ c (minus_number g ((m + k) % 2 ^ 32) n hp.1 hn w) in
+    let b : s ≡ x = cc (plus_number g m n hp.1 hn w) in
+    let c = within_ok rs (by_rules Sub s n) t ht in
+    let d : t ≡ plain g 32 (wrap 32 (pos ((m + k) % 2 ^ 32) -ℤ pos k)) = cc (minus_number g ((m + k) % 2 ^ 32) n hp.1 hn w) in
     d ∙ ap (plain g 32) (sum_back 32 m k f.fits (number_fits n hn w)) ∙ sym i
 
 pub leads : Leads
@@ -147,6 +144,6 @@ leads rs p q hp hq e =
       ap (within rs) y,
       (z, refl, refl),
       refl,
-      λ s hs. same_row _ s p (within_ok rs (by_rules Add q d) s hs) u,
+      λ s hs. let v = within_ok rs (by_rules Add q d) s hs in cc,
       λ t. ap (within rs) u ∙ cond-false (not (inside rs p.region p.number)) _ (Ok p) (not_from_true _ t),
     )

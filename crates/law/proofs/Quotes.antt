@@ -1,5 +1,5 @@
 -- Quotient and remainder of numbers of w bits.
-use Rattle.std.proofs.Common.{◌≡◌, ℕ, zero, suc, ◌+◌, ◌-◌, ◌*◌, ◌/◌, ◌%◌, ◌^◌, ◌<◌, ◌≤◌, ◌⊎◌, ℤ, pos, negsuc, neg_ℤ, nat_abs, Ok, sym, refl, ap, ◌∙◌, subst, inl, inr, mod-eq_of_lt, mul_assoc, mul_comm, add-mul, mul-add, div-le_self, arith, pow_pos, pow-add}
+use Rattle.std.proofs.Common.{◌≡◌, ℕ, zero, suc, ◌+◌, ◌-◌, ◌*◌, ◌/◌, ◌%◌, ◌^◌, ◌<◌, ◌≤◌, ◌⊎◌, ℤ, pos, negsuc, ◌-ℤ◌, neg_ℤ, nat_abs, Ok, sym, refl, ap, ◌∙◌, subst, inl, inr, mod-eq_of_lt, mul_assoc, mul_comm, add-mul, mul-add, div-le_self, arith, pow_pos, pow-add}
 use native.Mathlib.Nat.{add-mul-mod_self_right, mod_self, mod-le, sub-zero}
 use lib.Signed.{non_neg, quot_z, rem_z}
 use Rattle.std.proofs.lemmas.Nat.{div-add-mod', mod_below}
@@ -11,14 +11,15 @@ use Rattle.value.specs.declared.rows.Row.{Row}
 use Rattle.value.specs.Rows.{width, plain}
 use Rattle.operator.specs.declared.ops.BinaryOp.TheVariants.{Divide}
 use Rattle.operator.specs.declared.ops.Division.{Division}
+use Rattle.operator.specs.declared.ops.Division.TheVariants.{Quotient, Remainder}
 use Rattle.operator.specs.Words.{signed, wrap}
 use Rattle.operator.specs.Rules.{divided, by_rules, within}
-use Rattle.law.specs.declared.readings.Reading.{Reading}
-use Rattle.law.specs.declared.readings.Reading.TheVariants.{Plain, Complement}
+use Rattle.operator.specs.declared.ops.Reading.{Reading}
+use Rattle.operator.specs.declared.ops.Reading.TheVariants.{Unsigned, Signed}
 use Rattle.law.specs.Pointers.{Number}
-use Rattle.law.specs.Readings.{quotient_of, remainder_of}
 use Rattle.law.specs.Quotients.{Divided, Divides}
 use Rattle.law.proofs.Facts.{in_cst}
+use Rattle.law.proofs.Offsets.{wrap_down}
 
 -- m from m plus or minus multiples of W
 lands : (x m j k W : ℕ) → m < W → x + j * W ≡ m + k * W → x % W ≡ m
@@ -45,10 +46,7 @@ minus_zero : (w : ℕ) → wrap w (neg_ℤ (pos 0)) ≡ 0
 minus_zero w = mod-eq_of_lt (pow_pos w)
 
 minus_is : (w n : ℕ) → 0 < n → n ≤ 2 ^ w → wrap w (neg_ℤ (pos n)) ≡ 2 ^ w - n
-minus_is w n h l =
-    let i : neg_ℤ (pos n) ≡ negsuc (n - 1) = omega (arith, ints) in
-    let e : (n - 1) % 2 ^ w ≡ n - 1 = mod-eq_of_lt (omega arith) in
-    ap (wrap w) i ∙ ap (λ x. 2 ^ w - 1 - x) e ∙ omega arith
+minus_is w n h l = let i : neg_ℤ (pos n) ≡ pos 0 -ℤ pos n = omega (arith, ints) in ap (wrap w) i ∙ wrap_down w 0 n h l ∙ omega arith
 
 minus_reduced : (w n : ℕ) → n ≤ 2 ^ w → wrap w (neg_ℤ (pos n)) ≡ (2 ^ w - n) % 2 ^ w
 minus_reduced w zero l = minus_zero w ∙ sym (ap (λ x. x % 2 ^ w) (sub-zero (2 ^ w)) ∙ mod_self (2 ^ w))
@@ -162,12 +160,12 @@ in_complement w m n a h k z =
       ]
     ]
 
-numbers : (reading : Reading) (w m n : ℕ) → 1 ≤ w → m < 2 ^ w → n < 2 ^ w → 0 < n → Divided reading w m n (wrap w (divided (quotient_of reading) w m n)) (wrap w (divided (remainder_of reading) w m n))
-numbers Plain w m n a h k z =
+numbers : (reading : Reading) (w m n : ℕ) → 1 ≤ w → m < 2 ^ w → n < 2 ^ w → 0 < n → Divided reading w m n (wrap w (divided (Quotient reading) w m n)) (wrap w (divided (Remainder reading) w m n))
+numbers Unsigned w m n a h k z =
     let b : m % n < n = mod_below m n z in
     let e : (m % n) % 2 ^ w ≡ m % n = mod-eq_of_lt (omega arith) in
     record { recombines = clear_clear w m n h; smaller = subst (λ x. x < n) (sym e) b; sign = inr refl }
-numbers Complement w m n a h k z =
+numbers Signed w m n a h k z =
     let d = in_complement w m n a h k z in
     record { recombines = d.0; smaller = d.1.0; sign = d.1.1 }
 
@@ -178,9 +176,9 @@ divided_rules d a b p q e z = grind (arith, nat_tests)
 pub divides : Divides
 divides reading rs a b p q e z =
     let k : b.number < 2 ^ width a = subst (λ v. b.number < 2 ^ v) (sym e) (in_cst b q.0 q.1).fits in (
-      plain Cst (width a) (wrap (width a) (divided (quotient_of reading) (width a) a.number b.number)),
-      plain Cst (width a) (wrap (width a) (divided (remainder_of reading) (width a) a.number b.number)),
-      ap (within rs) (divided_rules (quotient_of reading) a b p q e z),
-      ap (within rs) (divided_rules (remainder_of reading) a b p q e z),
+      plain Cst (width a) (wrap (width a) (divided (Quotient reading) (width a) a.number b.number)),
+      plain Cst (width a) (wrap (width a) (divided (Remainder reading) (width a) a.number b.number)),
+      ap (within rs) (divided_rules (Quotient reading) a b p q e z),
+      ap (within rs) (divided_rules (Remainder reading) a b p q e z),
       numbers reading (width a) a.number b.number (omega arith) (in_cst a p.0 p.1).fits k z,
     )

@@ -1,25 +1,25 @@
 -- The comparisons are total orders.
-use Rattle.std.proofs.Common.{◌≡◌, ℕ, ◌-◌, ◌%◌, ◌^◌, ◌<◌, Bool, true, false, cond, not, ◌⊎◌, List, ℤ, pos, ◌-ℤ◌, Ok, Err, sym, refl, ap, ◌∙◌, subst, inl, inr, arith}
+use Rattle.std.proofs.Common.{◌≡◌, ℕ, ◌-◌, ◌%◌, ◌^◌, ◌<◌, Bool, true, false, cond, not, ◌⊎◌, List, ℤ, pos, ◌-ℤ◌, Ok, sym, refl, ap, ◌∙◌, subst, inl, inr, mod-eq_of_lt, arith}
 use lib.Signed.{lt_z}
 use Rattle.std.proofs.lemmas.Int.{ints}
-use Rattle.std.proofs.lemmas.Bool.{cases_Bool, cases_lt, lt-ltb, le-ltb, eqb-true, eq-eqb}
+use Rattle.std.proofs.lemmas.Bool.{cases_Bool, cases_lt, le-ltb, eqb-true, eq-eqb}
 use Rattle.std.proofs.lemmas.Bool.Decides.{nat_tests}
 use Rattle.value.specs.declared.rows.Row.{Row}
 use Rattle.value.specs.declared.rows.RegionRecord.{RegionRecord}
 use Rattle.value.specs.Rows.{Outcome, rank, cst, width}
 use Rattle.operator.specs.declared.ops.BinaryOp.TheVariants.{Compare}
 use Rattle.operator.specs.declared.ops.Comparison.{Comparison}
-use Rattle.operator.specs.declared.ops.Comparison.TheVariants.{Equal, NotEqual}
+use Rattle.operator.specs.declared.ops.Comparison.TheVariants.{Equal, NotEqual, Ordered}
 use Rattle.operator.specs.declared.ops.Order.{Order}
 use Rattle.operator.specs.declared.ops.Order.TheVariants.{Less, LessOrEqual, GreaterOrEqual, Greater}
-use Rattle.operator.specs.Words.{signed}
+use Rattle.operator.specs.Words.{signed, meant, wrap}
 use Rattle.operator.specs.Rules.{ordered, holds, by_rules, within, applied, bit}
-use Rattle.law.specs.declared.readings.Reading.{Reading}
-use Rattle.law.specs.declared.readings.Reading.TheVariants.{Plain, Complement}
-use Rattle.law.specs.Readings.{compared_by}
-use Rattle.law.specs.Quotients.{read}
+use Rattle.operator.specs.declared.ops.Reading.{Reading}
+use Rattle.operator.specs.declared.ops.Reading.TheVariants.{Unsigned, Signed}
 use Rattle.law.specs.Orders.{Whole, Comparable, Says, TotalOrder, Orders}
 use Rattle.law.proofs.Facts.{is_same, rowwise, in_region, in_cst}
+use Rattle.law.proofs.Offsets.{wrap_down}
+use Rattle.law.proofs.Quotes.{read_clear}
 
 one_bit : (b : Bool) → cond b 1 0 % 2 ^ 1 ≡ cond b 1 0
 one_bit true = refl
@@ -35,50 +35,25 @@ pub compared : (rs : List RegionRecord) (k : Comparison) (a b : Row) → Compara
 compared rs k a b h = ap (within rs) (compared_rules k a b h)
 
 -- two bits that are one
-number_of : Outcome → ℕ
-number_of (Ok r) = r.number
-number_of (Err e) = 0
-
 same_bit : (x y : Bool) → ◌≡◌ {A = Outcome} (Ok (bit x)) (Ok (bit y)) → x ≡ y
-unfolding number_of
 same_bit true true e = refl
 same_bit false false e = refl
-same_bit true false e = let z : ◌≡◌ {A = ℕ} 1 0 = ap number_of e in absurd (omega arith)
-same_bit false true e = let z : ◌≡◌ {A = ℕ} 0 1 = ap number_of e in absurd (omega arith)
+same_bit true false e = let z : bit true ≡ bit false = cc in absurd (omega (arith, ap (λ (r : Row). r.number) z))
+same_bit false true e = let z : bit false ≡ bit true = cc in absurd (omega (arith, ap (λ (r : Row). r.number) z))
 
--- an order by the integers that the bits mean
-by_integers : (reading : Reading) (o : Order) (w m n : ℕ) → holds (compared_by reading o) w m n ≡ ordered o (lt_z (read reading w m) (read reading w n)) (lt_z (read reading w n) (read reading w m))
-by_integers Plain o w m n = refl
-by_integers Complement o w m n = refl
-
-signed_apart : (w m n : ℕ) → m < 2 ^ w → n < 2 ^ w → signed w m ≡ signed w n → m ≡ n
-signed_apart w m n h k e =
-    elim (cases_lt m (2 ^ (w - 1))) [
-      | inl a ↦ elim (cases_lt n (2 ^ (w - 1))) [
-        | inl b ↦
-            let p : signed w m ≡ pos m = simp (lt-ltb m (2 ^ (w - 1)) a) in
-            let q : signed w n ≡ pos n = simp (lt-ltb n (2 ^ (w - 1)) b) in
-            let z : pos m ≡ pos n = sym p ∙ e ∙ q in cc
-        | inr b ↦
-            let p : signed w m ≡ pos m = simp (lt-ltb m (2 ^ (w - 1)) a) in
-            let q : signed w n ≡ pos n -ℤ pos (2 ^ w) = simp (le-ltb n (2 ^ (w - 1)) b) in
-            let z : pos m ≡ pos n -ℤ pos (2 ^ w) = sym p ∙ e ∙ q in omega (arith, ints)
-      ]
-      | inr a ↦ elim (cases_lt n (2 ^ (w - 1))) [
-        | inl b ↦
-            let p : signed w m ≡ pos m -ℤ pos (2 ^ w) = simp (le-ltb m (2 ^ (w - 1)) a) in
-            let q : signed w n ≡ pos n = simp (lt-ltb n (2 ^ (w - 1)) b) in
-            let z : pos m -ℤ pos (2 ^ w) ≡ pos n = sym p ∙ e ∙ q in omega (arith, ints)
-        | inr b ↦
-            let p : signed w m ≡ pos m -ℤ pos (2 ^ w) = simp (le-ltb m (2 ^ (w - 1)) a) in
-            let q : signed w n ≡ pos n -ℤ pos (2 ^ w) = simp (le-ltb n (2 ^ (w - 1)) b) in
-            let z : pos m -ℤ pos (2 ^ w) ≡ pos n -ℤ pos (2 ^ w) = sym p ∙ e ∙ q in omega (arith, ints)
-      ]
+-- the bits of what bits mean
+bits_back : (reading : Reading) (w n : ℕ) → n < 2 ^ w → wrap w (meant reading w n) ≡ n
+bits_back Unsigned w n h = mod-eq_of_lt h
+bits_back Signed w n h =
+    elim (cases_lt n (2 ^ (w - 1))) [
+      | inl a ↦ ap (wrap w) (read_clear w n a) ∙ mod-eq_of_lt h
+      | inr a ↦
+          let e : signed w n ≡ pos n -ℤ pos (2 ^ w) = simp (le-ltb n (2 ^ (w - 1)) a) in
+          ap (wrap w) e ∙ wrap_down w n (2 ^ w) h (omega arith) ∙ omega arith
     ]
 
-apart : (reading : Reading) (w m n : ℕ) → m < 2 ^ w → n < 2 ^ w → read reading w m ≡ read reading w n → m ≡ n
-apart Plain w m n h k e = cc
-apart Complement w m n h k e = signed_apart w m n h k e
+apart : (reading : Reading) (w m n : ℕ) → m < 2 ^ w → n < 2 ^ w → meant reading w m ≡ meant reading w n → m ≡ n
+apart reading w m n h k e = sym (bits_back reading w m h) ∙ ap (wrap w) e ∙ bits_back reading w n k
 
 fits : (a : Row) → Whole a → a.number < 2 ^ width a
 fits a h =
@@ -140,23 +115,22 @@ module _ (reading : Reading) (rs : List RegionRecord) where
 
   -- the integer of a row, at the width w
   abbrev at : ℕ → Row → ℤ
-  at w r = read reading w r.number
+  at w r = meant reading w r.number
 
   -- what an order answers at the width w that both have
-  answer : (o : Order) (a b : Row) (w : ℕ) → Comparable a b → width a ≡ w → applied rs (Compare (compared_by reading o)) a b ≡ Ok (bit (says o (at w a) (at w b)))
+  answer : (o : Order) (a b : Row) (w : ℕ) → Comparable a b → width a ≡ w → applied rs (Compare (Ordered reading o)) a b ≡ Ok (bit (says o (at w a) (at w b)))
   answer o a b w h e =
-      compared rs (compared_by reading o) a b h
-      ∙ ap (λ t. Ok (bit t)) (by_integers reading o (width a) a.number b.number)
+      compared rs (Ordered reading o) a b h
       ∙ ap (λ k. Ok (bit (says o (at k a) (at k b)))) e
 
-  told : (o : Order) (a b : Row) (w : ℕ) (t : Bool) → Comparable a b → width a ≡ w → Says rs (compared_by reading o) a b t → says o (at w a) (at w b) ≡ t
+  told : (o : Order) (a b : Row) (w : ℕ) (t : Bool) → Comparable a b → width a ≡ w → Says rs (Ordered reading o) a b t → says o (at w a) (at w b) ≡ t
   told o a b w t h e s = same_bit _ t (sym (answer o a b w h e) ∙ s)
 
-  tell : (o : Order) (a b : Row) (w : ℕ) (t : Bool) → Comparable a b → width a ≡ w → says o (at w a) (at w b) ≡ t → Says rs (compared_by reading o) a b t
+  tell : (o : Order) (a b : Row) (w : ℕ) (t : Bool) → Comparable a b → width a ≡ w → says o (at w a) (at w b) ≡ t → Says rs (Ordered reading o) a b t
   tell o a b w t h e s = answer o a b w h e ∙ ap (λ x. Ok (bit x)) s
 
   module _ (a b : Row) (h : Comparable a b) where
-    decided : (o : Order) → Says rs (compared_by reading o) a b true ⊎ Says rs (compared_by reading o) a b false
+    decided : (o : Order) → Says rs (Ordered reading o) a b true ⊎ Says rs (Ordered reading o) a b false
     decided o =
         elim (cases_Bool (says o (at (width a) a) (at (width a) b))) [
           | inl t ↦ inl (tell o a b (width a) true h refl t)
@@ -164,23 +138,23 @@ module _ (reading : Reading) (rs : List RegionRecord) where
         ]
 
     -- what the same order says the other way round
-    back : (o : Order) (t : Bool) → Says rs (compared_by reading o) b a t → says o (at (width a) b) (at (width a) a) ≡ t
+    back : (o : Order) (t : Bool) → Says rs (Ordered reading o) b a t → says o (at (width a) b) (at (width a) a) ≡ t
     back o t s = told o b a (width a) t (turned a b h) (sym h.2) s
 
-    antisymmetric : Says rs (compared_by reading LessOrEqual) a b true → Says rs (compared_by reading LessOrEqual) b a true → a ≡ b
+    antisymmetric : Says rs (Ordered reading LessOrEqual) a b true → Says rs (Ordered reading LessOrEqual) b a true → a ≡ b
     antisymmetric p q =
         let e = one_of_two (at (width a) a) (at (width a) b) (told LessOrEqual a b (width a) true h refl p) (back LessOrEqual true q) in
         let k = subst (λ w. b.number < 2 ^ w) (sym h.2) (fits b h.1) in
         same_rows a b h (apart reading (width a) a.number b.number (fits a h.0) k e)
 
-    total : Says rs (compared_by reading LessOrEqual) a b true ⊎ Says rs (compared_by reading LessOrEqual) b a true
+    total : Says rs (Ordered reading LessOrEqual) a b true ⊎ Says rs (Ordered reading LessOrEqual) b a true
     total =
         elim (one_way (at (width a) a) (at (width a) b)) [
           | inl t ↦ inl (tell LessOrEqual a b (width a) true h refl t)
           | inr t ↦ inr (tell LessOrEqual b a (width a) true (turned a b h) (sym h.2) t)
         ]
 
-  transitive : (a b c : Row) → Comparable a b → Comparable b c → Says rs (compared_by reading LessOrEqual) a b true → Says rs (compared_by reading LessOrEqual) b c true → Says rs (compared_by reading LessOrEqual) a c true
+  transitive : (a b c : Row) → Comparable a b → Comparable b c → Says rs (Ordered reading LessOrEqual) a b true → Says rs (Ordered reading LessOrEqual) b c true → Says rs (Ordered reading LessOrEqual) a c true
   transitive a b c h k p q =
       let x = told LessOrEqual a b (width a) true h refl p in
       let y = told LessOrEqual b c (width a) true k (sym h.2) q in

@@ -1,7 +1,6 @@
 pub mod Described
 pub mod Pieces
 pub mod Pointers
-pub mod Readings
 pub mod Quotients
 pub mod Orders
 pub mod Worked

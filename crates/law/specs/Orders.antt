@@ -5,12 +5,11 @@ use Rattle.value.specs.declared.rows.RegionRecord.{RegionRecord}
 use Rattle.value.specs.Rows.{sound, same, part, width}
 use Rattle.operator.specs.declared.ops.BinaryOp.TheVariants.{Compare}
 use Rattle.operator.specs.declared.ops.Comparison.{Comparison}
-use Rattle.operator.specs.declared.ops.Comparison.TheVariants.{Equal, NotEqual}
+use Rattle.operator.specs.declared.ops.Comparison.TheVariants.{Equal, NotEqual, Ordered}
 use Rattle.operator.specs.declared.ops.Order.{Order}
 use Rattle.operator.specs.declared.ops.Order.TheVariants.{Less, LessOrEqual, GreaterOrEqual, Greater}
 use Rattle.operator.specs.Rules.{applied, bit}
-use Rattle.law.specs.declared.readings.Reading.{Reading}
-use Rattle.law.specs.Readings.{compared_by}
+use Rattle.operator.specs.declared.ops.Reading.{Reading}
 
 -- a number or a whole pointer
 abbrev pub Whole : Row → Type 0
@@ -25,16 +24,16 @@ Says rs k a b t = applied rs (Compare k) a b ≡ Ok (bit t)
 
 -- the four orders of one reading
 pub record TotalOrder (reading : Reading) (rs : List RegionRecord) : Type 0 where
-  pub decided : (o : Order) (a b : Row) → Comparable a b → Says rs (compared_by reading o) a b true ⊎ Says rs (compared_by reading o) a b false
-  pub reflexive : (a : Row) → Whole a → Says rs (compared_by reading LessOrEqual) a a true
-  pub antisymmetric : (a b : Row) → Comparable a b → Says rs (compared_by reading LessOrEqual) a b true → Says rs (compared_by reading LessOrEqual) b a true → a ≡ b
-  pub transitive : (a b c : Row) → Comparable a b → Comparable b c → Says rs (compared_by reading LessOrEqual) a b true → Says rs (compared_by reading LessOrEqual) b c true → Says rs (compared_by reading LessOrEqual) a c true
-  pub total : (a b : Row) → Comparable a b → Says rs (compared_by reading LessOrEqual) a b true ⊎ Says rs (compared_by reading LessOrEqual) b a true
+  pub decided : (o : Order) (a b : Row) → Comparable a b → Says rs (Ordered reading o) a b true ⊎ Says rs (Ordered reading o) a b false
+  pub reflexive : (a : Row) → Whole a → Says rs (Ordered reading LessOrEqual) a a true
+  pub antisymmetric : (a b : Row) → Comparable a b → Says rs (Ordered reading LessOrEqual) a b true → Says rs (Ordered reading LessOrEqual) b a true → a ≡ b
+  pub transitive : (a b c : Row) → Comparable a b → Comparable b c → Says rs (Ordered reading LessOrEqual) a b true → Says rs (Ordered reading LessOrEqual) b c true → Says rs (Ordered reading LessOrEqual) a c true
+  pub total : (a b : Row) → Comparable a b → Says rs (Ordered reading LessOrEqual) a b true ⊎ Says rs (Ordered reading LessOrEqual) b a true
   -- less is not at least
-  pub less : (a b : Row) (t : Bool) → Comparable a b → Says rs (compared_by reading LessOrEqual) b a t → Says rs (compared_by reading Less) a b (not t)
+  pub less : (a b : Row) (t : Bool) → Comparable a b → Says rs (Ordered reading LessOrEqual) b a t → Says rs (Ordered reading Less) a b (not t)
   -- greater is less the other way round
-  pub greater : (a b : Row) → Comparable a b → applied rs (Compare (compared_by reading Greater)) a b ≡ applied rs (Compare (compared_by reading Less)) b a
-  pub at_least : (a b : Row) → Comparable a b → applied rs (Compare (compared_by reading GreaterOrEqual)) a b ≡ applied rs (Compare (compared_by reading LessOrEqual)) b a
+  pub greater : (a b : Row) → Comparable a b → applied rs (Compare (Ordered reading Greater)) a b ≡ applied rs (Compare (Ordered reading Less)) b a
+  pub at_least : (a b : Row) → Comparable a b → applied rs (Compare (Ordered reading GreaterOrEqual)) a b ≡ applied rs (Compare (Ordered reading LessOrEqual)) b a
 
 pub record Orders : Type 0 where
   pub total_order : (reading : Reading) (rs : List RegionRecord) → TotalOrder reading rs

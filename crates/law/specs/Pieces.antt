@@ -1,13 +1,9 @@
 -- Cutting a value into pieces, and joining them.
-use Rattle.std.specs.Prelude.{◌≡◌, ℕ, ◌+◌, ◌-◌, ◌<◌, ◌≤◌, true, Ok, Err}
+use Rattle.std.specs.Prelude.{◌≡◌, ℕ, ◌+◌, ◌-◌, ◌<◌, ◌≤◌, true, Ok}
+use Rattle.answer.specs.First.{and_then}
 use Rattle.value.specs.declared.rows.Row.{Row}
 use Rattle.value.specs.Rows.{Outcome, sound, width}
 use Rattle.operator.specs.Bits.{restricted, concatenated}
-
--- the next operation on a result, or the fault
-abbrev pub and_then : Outcome → (Row → Outcome) → Outcome
-and_then (Ok r) f = f r
-and_then (Err e) f = Err e
 
 -- the k lowest bits of r joined with the bits above them
 abbrev pub rejoined : Row → ℕ → Outcome

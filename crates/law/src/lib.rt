@@ -1,5 +1,4 @@
 // What holds of the values and operators.
 #![tactic(auto)]
 
-pub mod readings;
 pub mod theorems;

@@ -8,16 +8,19 @@ ghost use Rattle.law.specs.Orders.{Orders};
 ghost use Rattle.law.specs.Worked.{WorkedCases};
 
 // Each value that exists has one sound row, and every sound row is a value's.
+#[tactic(auto, using(crate::proofs::Parts::one_row))]
 pub fn one_row()
     ensures { OneRow }
 {}
 
 // A value that is cut anywhere inside and joined is the value.
+#[tactic(auto, using(crate::proofs::Cuts::rejoins))]
 pub fn rejoins()
     ensures { Rejoins }
 {}
 
 // A restriction of a restriction is one restriction.
+#[tactic(auto, using(crate::proofs::Cuts::narrows))]
 pub fn narrows()
     ensures { Narrows }
 {}
@@ -28,16 +31,19 @@ pub fn returns()
 {}
 
 // Pointer minus pointer is the number that leads from one to the other.
+#[tactic(auto, using(crate::proofs::Offsets::leads))]
 pub fn leads()
     ensures { Leads }
 {}
 
 // Quotient times divisor plus remainder is the dividend, and the remainder is small.
+#[tactic(auto, using(crate::proofs::Quotes::divides))]
 pub fn divides()
     ensures { Divides }
 {}
 
 // The comparisons are total orders.
+#[tactic(auto, using(crate::proofs::Totals::orders))]
 pub fn orders()
     ensures { Orders }
 {}

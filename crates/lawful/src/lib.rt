@@ -1,20 +1,19 @@
 // Operations that a law holds of, each with the law on its contract.
 #![tactic(auto)]
 
-ghost use Rattle.std.specs.Prelude.{◌≡◌, ◌<◌, ◌⊎◌, [], Ok, Err};
+ghost use Rattle.std.specs.Prelude.{◌≡◌, ◌<◌, ◌⊎◌, [], IfErr, IfOk, Ok, Err};
+ghost use Rattle.answer.specs.First.{and_then};
 ghost use Rattle.value.specs.Rows.{sound};
 ghost use Rattle.value.specs.Outcome.{outcome};
 ghost use Rattle.operator.specs.Bits.{restricted};
 ghost use Rattle.operator.specs.Rules.{applied};
 ghost use Rattle.law.specs.Described.{OneRow};
-ghost use Rattle.law.specs.Pieces.{and_then, rejoined, Rejoins, Narrows};
+ghost use Rattle.law.specs.Pieces.{rejoined, Rejoins, Narrows};
 ghost use Rattle.law.specs.Pointers.{Returns, Leads};
-ghost use Rattle.law.specs.Readings.{quotient_of, remainder_of, compared_by};
 ghost use Rattle.law.specs.Quotients.{Divides};
 ghost use Rattle.law.specs.Orders.{Orders};
 
 use answer::faults::Fault;
-use law::readings::Reading;
 use law::theorems;
 use operator::binary::apply;
 use operator::bits::*;
@@ -82,41 +81,16 @@ pub fn distance(from: Value, to: Value, regions: &[RegionRecord]) -> Result<Valu
     apply(BinaryOp::Sub, to, from, regions)
 }
 
-fn quotient(reading: Reading) -> Division
-    ensures { result ≡ quotient_of reading }
-{
-    match reading {
-        Reading::Plain => Division::UnsignedQuotient,
-        Reading::Complement => Division::SignedQuotient,
-    }
-}
-
-fn remainder(reading: Reading) -> Division
-    ensures { result ≡ remainder_of reading }
-{
-    match reading {
-        Reading::Plain => Division::UnsignedRemainder,
-        Reading::Complement => Division::SignedRemainder,
-    }
-}
-
-fn compared_by(reading: Reading, order: Order) -> Comparison
-    ensures { result ≡ compared_by reading order }
-{
-    match reading {
-        Reading::Plain => Comparison::Unsigned(order),
-        Reading::Complement => Comparison::Signed(order),
-    }
-}
-
 // Quotient and remainder: by a divisor that is not 0 they give the dividend back.
 pub fn divide(reading: Reading, a: Value, b: Value) -> Result<(Value, Value), Fault>
-    ensures value { elim result [ Ok p ↦ (applied [] (BinaryOp.Divide (quotient_of reading)) a.row b.row ≡ Ok p.0.row) × (applied [] (BinaryOp.Divide (remainder_of reading)) a.row b.row ≡ Ok p.1.row) | Err e ↦ (applied [] (BinaryOp.Divide (quotient_of reading)) a.row b.row ≡ Err e) ⊎ (applied [] (BinaryOp.Divide (remainder_of reading)) a.row b.row ≡ Err e) ] }
+    ensures quotient { IfOk result (λ p. applied [] (BinaryOp.Divide (Division.Quotient reading)) a.row b.row ≡ Ok p.0.row) }
+    ensures remainder { IfOk result (λ p. applied [] (BinaryOp.Divide (Division.Remainder reading)) a.row b.row ≡ Ok p.1.row) }
+    ensures fault { IfErr result (λ e. (applied [] (BinaryOp.Divide (Division.Quotient reading)) a.row b.row ≡ Err e) ⊎ (applied [] (BinaryOp.Divide (Division.Remainder reading)) a.row b.row ≡ Err e)) }
     ensures law { Divides }
 {
     theorems::divides();
-    let q = apply(BinaryOp::Divide(quotient(reading)), a, b, &[])?;
-    let r = apply(BinaryOp::Divide(remainder(reading)), a, b, &[])?;
+    let q = apply(BinaryOp::Divide(Division::Quotient(reading)), a, b, &[])?;
+    let r = apply(BinaryOp::Divide(Division::Remainder(reading)), a, b, &[])?;
     Ok((q, r))
 }
 
@@ -127,12 +101,12 @@ pub fn is_at_most(
     b: Value,
     regions: &[RegionRecord],
 ) -> Result<Value, Fault>
-    ensures value { outcome result ≡ applied regions.now (BinaryOp.Compare (compared_by reading Order.LessOrEqual)) a.row b.row }
+    ensures value { outcome result ≡ applied regions.now (BinaryOp.Compare (Comparison.Ordered reading Order.LessOrEqual)) a.row b.row }
     ensures law { Orders }
 {
     theorems::orders();
     apply(
-        BinaryOp::Compare(compared_by(reading, Order::LessOrEqual)),
+        BinaryOp::Compare(Comparison::Ordered(reading, Order::LessOrEqual)),
         a,
         b,
         regions,

@@ -8,9 +8,11 @@ use lib.Signed.{non_neg}
 use Rattle.std.proofs.lemmas.Nat.{div-add-mod', mod_below, or_shifted, shl_whole}
 use Rattle.std.proofs.lemmas.Int.{ints}
 use Rattle.std.proofs.lemmas.Bool.{cases_lt, false≢true}
-use Rattle.operator.specs.Words.{signed, wrap}
+use Rattle.operator.specs.Words.{meant, wrap}
 use Rattle.operator.specs.Rules.{result_width, result_of}
 use Rattle.operator.specs.declared.ops.BinaryOp.{BinaryOp}
+use Rattle.operator.specs.declared.ops.Reading.{Reading}
+use Rattle.operator.specs.declared.ops.Reading.TheVariants.{Unsigned, Signed}
 
 pub cut : (n w : ℕ) → w ≤ 64 → n % 2 ^ 64 % 2 ^ w ≡ n % 2 ^ w
 cut n w h =
@@ -85,8 +87,9 @@ negative_is : (b : Bool) (n : ℕ) (z : ℤ) → not (non_neg (cond b (pos n) z)
 negative_is true n z h = absurd (false≢true h)
 negative_is false n z h = refl
 
-pub signed_negative : (w n : ℕ) → not (non_neg (signed w n)) ≡ true → signed w n ≡ pos n -ℤ pos (2 ^ w)
-signed_negative w n h = negative_is (ltb n (2 ^ (w - 1))) n (pos n -ℤ pos (2 ^ w)) h
+pub meant_negative : (reading : Reading) (w n : ℕ) → not (non_neg (meant reading w n)) ≡ true → meant reading w n ≡ pos n -ℤ pos (2 ^ w)
+meant_negative Unsigned w n h = absurd (false≢true h)
+meant_negative Signed w n h = negative_is (ltb n (2 ^ (w - 1))) n (pos n -ℤ pos (2 ^ w)) h
 
 pub joined : (u v m n : ℕ) → u + v ≤ 64 → m < 2 ^ u → n < 2 ^ v → bit_or ((n * 2 ^ u) % 2 ^ 64) m % 2 ^ (u + v) ≡ m + n * 2 ^ u
 joined u v m n h k l =
@@ -98,11 +101,11 @@ joined u v m n h k l =
     ∙ mod-eq_of_lt q
     ∙ add_comm (n * 2 ^ u) m
 
-pub magnitude_negative : (w n : ℕ) → n < 2 ^ w → not (non_neg (signed w n)) ≡ true → nat_abs (signed w n) ≡ 2 ^ w - n
-magnitude_negative w n l h =
+pub magnitude_negative : (reading : Reading) (w n : ℕ) → n < 2 ^ w → not (non_neg (meant reading w n)) ≡ true → nat_abs (meant reading w n) ≡ 2 ^ w - n
+magnitude_negative reading w n l h =
     let k = 2 ^ w - suc n in
     let i : pos n -ℤ pos (2 ^ w) ≡ negsuc k = omega (arith, ints) in
-    ap nat_abs (signed_negative w n h ∙ i) ∙ omega arith
+    ap nat_abs (meant_negative reading w n h ∙ i) ∙ omega arith
 
 -- bits whose result is shown at the operator that was matched
 pub at_op : (x w m n : ℕ) (op o : BinaryOp) → op ≡ o → x % 2 ^ result_width o w ≡ result_of o w m n → x % 2 ^ result_width op w ≡ result_of op w m n

@@ -1,13 +1,14 @@
 -- Not, extension, restriction and concatenation.
-use Rattle.std.specs.Prelude.{ℕ, ◌+◌, ◌-◌, ◌*◌, ◌/◌, ◌%◌, ◌^◌, Bool, true, not, ◌&&◌, ◌||◌, ℤ, pos, Ok, Err, ◌==◌, nat_le, nat_lt}
+use Rattle.std.specs.Prelude.{ℕ, ◌+◌, ◌-◌, ◌*◌, ◌/◌, ◌%◌, ◌^◌, Bool, true, not, ◌&&◌, ◌||◌, Ok, Err, ◌==◌, nat_le, nat_lt}
 use Rattle.answer.specs.declared.faults.Fault.TheVariants.{NoExactValue}
 use Rattle.answer.specs.First.{◌gives◌else◌}
 use Rattle.value.specs.declared.rows.Region.TheVariants.{Cst}
 use Rattle.value.specs.declared.rows.Row.{Row}
 use Rattle.value.specs.Rows.{Outcome, widest, cst, same, width, undefined, plain, undefined_row, no_width}
-use Rattle.operator.specs.declared.ops.Extension.{Extension}
-use Rattle.operator.specs.declared.ops.Extension.TheVariants.{Zeros, Sign}
-use Rattle.operator.specs.Words.{signed, wrap}
+use Rattle.operator.specs.declared.ops.Reading.{Reading}
+use Rattle.operator.specs.declared.ops.UnaryOp.{UnaryOp}
+use Rattle.operator.specs.declared.ops.UnaryOp.TheVariants.{Not, Extend, Restrict}
+use Rattle.operator.specs.Words.{meant, wrap}
 
 -- every bit turned
 abbrev pub inverted : Row → Outcome
@@ -16,19 +17,14 @@ inverted r =
     not (cst r.region) gives Err NoExactValue else
     Ok (plain Cst (width r) (2 ^ width r - 1 - r.number))
 
--- what w bits mean to an extension
-abbrev pub meant : Extension → ℕ → ℕ → ℤ
-meant Zeros w n = pos n
-meant Sign w n = signed w n
-
 -- the same number in k bits
-abbrev pub extended : Extension → Row → ℕ → Outcome
-extended how r k =
+abbrev pub extended : Reading → Row → ℕ → Outcome
+extended reading r k =
     no_width k gives Err NoExactValue else
     undefined r gives Ok (undefined_row k) else
     not (cst r.region) gives Err NoExactValue else
     nat_le k (width r) gives Err NoExactValue else
-    Ok (plain Cst k (wrap k (meant how (width r) r.number)))
+    Ok (plain Cst k (wrap k (meant reading (width r) r.number)))
 
 -- bits l to h of the pointer of r
 abbrev pub piece : Row → ℕ → ℕ → Row
@@ -42,6 +38,12 @@ restricted r i j =
     nat_le (width r) j gives Err NoExactValue else
     cst r.region gives Ok (plain Cst (j - i + 1) (r.number / 2 ^ i % 2 ^ (j - i + 1))) else
     Ok (piece r (r.low + i) (r.low + j))
+
+-- an operator of one operand
+abbrev pub changed : UnaryOp → Row → Outcome
+changed Not r = inverted r
+changed (Extend reading k) r = extended reading r k
+changed (Restrict i j) r = restricted r i j
 
 -- two pieces of one pointer, of which b begins just above a
 abbrev pub continues : Row → Row → Bool

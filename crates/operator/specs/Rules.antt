@@ -1,5 +1,5 @@
 -- The operators of two operands: rules tried from the top, of which the first that fits answers.
-use Rattle.std.specs.Prelude.{ℕ, ◌+◌, ◌-◌, ◌*◌, ◌/◌, ◌%◌, Bool, true, false, cond, not, ◌&&◌, ◌||◌, List, length, ℤ, pos, ◌-ℤ◌, Ok, Err, ◌==◌, bit_and, bit_or, int_div, int_lt, int_rem, nat_eq, nat_lt, slice_index_or}
+use Rattle.std.specs.Prelude.{ℕ, ◌+◌, ◌-◌, ◌*◌, Bool, true, false, cond, not, ◌&&◌, ◌||◌, List, length, ℤ, pos, ◌-ℤ◌, Ok, Err, ◌==◌, bit_and, bit_or, int_div, int_lt, int_rem, nat_eq, nat_lt, slice_index_or}
 use Rattle.answer.specs.declared.faults.Fault.TheVariants.{NoExactValue, ZeroDivisor, OutsideRegion}
 use Rattle.answer.specs.First.{◌gives◌else◌}
 use Rattle.value.specs.declared.rows.Region.{Region}
@@ -10,12 +10,12 @@ use Rattle.value.specs.Rows.{Outcome, cst, same, width, undefined, part, plain, 
 use Rattle.operator.specs.declared.ops.BinaryOp.{BinaryOp}
 use Rattle.operator.specs.declared.ops.BinaryOp.TheVariants.{Add, Sub, Mul, And, Or, Divide, Compare}
 use Rattle.operator.specs.declared.ops.Division.{Division}
-use Rattle.operator.specs.declared.ops.Division.TheVariants.{UnsignedQuotient, SignedQuotient, UnsignedRemainder, SignedRemainder}
+use Rattle.operator.specs.declared.ops.Division.TheVariants.{Quotient, Remainder}
 use Rattle.operator.specs.declared.ops.Comparison.{Comparison}
-use Rattle.operator.specs.declared.ops.Comparison.TheVariants.{Equal, NotEqual, Unsigned, Signed}
+use Rattle.operator.specs.declared.ops.Comparison.TheVariants.{Equal, NotEqual, Ordered}
 use Rattle.operator.specs.declared.ops.Order.{Order}
 use Rattle.operator.specs.declared.ops.Order.TheVariants.{Less, LessOrEqual, GreaterOrEqual, Greater}
-use Rattle.operator.specs.Words.{signed, wrap}
+use Rattle.operator.specs.Words.{meant, wrap}
 
 -- by what is less: whether the first is, and whether the second is
 abbrev pub ordered : Order → Bool → Bool → Bool
@@ -27,15 +27,12 @@ ordered Greater less more = more
 abbrev pub holds : Comparison → ℕ → ℕ → ℕ → Bool
 holds Equal w m n = m == n
 holds NotEqual w m n = not (m == n)
-holds (Unsigned o) w m n = ordered o (nat_lt m n) (nat_lt n m)
-holds (Signed o) w m n = ordered o (int_lt (signed w m) (signed w n)) (int_lt (signed w n) (signed w m))
+holds (Ordered reading o) w m n = ordered o (int_lt (meant reading w m) (meant reading w n)) (int_lt (meant reading w n) (meant reading w m))
 
--- quotient and remainder of numbers of w bits; a signed quotient is rounded toward zero
+-- quotient and remainder of numbers of w bits; a quotient is rounded toward zero
 abbrev pub divided : Division → ℕ → ℕ → ℕ → ℤ
-divided UnsignedQuotient w m n = pos (m / n)
-divided SignedQuotient w m n = int_div (signed w m) (signed w n)
-divided UnsignedRemainder w m n = pos (m % n)
-divided SignedRemainder w m n = int_rem (signed w m) (signed w n)
+divided (Quotient reading) w m n = int_div (meant reading w m) (meant reading w n)
+divided (Remainder reading) w m n = int_rem (meant reading w m) (meant reading w n)
 
 -- the exact result of two numbers of w bits
 abbrev pub exact : BinaryOp → ℕ → ℕ → ℕ → ℤ
@@ -86,14 +83,12 @@ compares (Compare k) = true
 abbrev pub comparison_is_equal : Comparison → Bool
 comparison_is_equal Equal = true
 comparison_is_equal NotEqual = false
-comparison_is_equal (Unsigned o) = false
-comparison_is_equal (Signed o) = false
+comparison_is_equal (Ordered reading o) = false
 
 abbrev pub comparison_is_unequal : Comparison → Bool
 comparison_is_unequal Equal = false
 comparison_is_unequal NotEqual = true
-comparison_is_unequal (Unsigned o) = false
-comparison_is_unequal (Signed o) = false
+comparison_is_unequal (Ordered reading o) = false
 
 abbrev pub is_equal : BinaryOp → Bool
 is_equal Add = false

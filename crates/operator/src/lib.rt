@@ -4,4 +4,5 @@
 pub mod binary;
 pub mod bits;
 pub mod ops;
+pub mod unary;
 mod words;

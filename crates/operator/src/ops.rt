@@ -10,22 +10,25 @@ pub enum BinaryOp {
     Compare(Comparison),
 }
 
-// Quotients and remainders, read unsigned or in two's complement. A signed quotient is rounded toward zero, and a
-// signed remainder has the dividend's sign.
+// How the bits of a number are read: as they stand, or in two's complement.
+#[derive(Clone, Copy, PartialEq, Eq)]
+pub enum Reading {
+    Unsigned,
+    Signed,
+}
+
+// A signed quotient is rounded toward zero, and a signed remainder has the dividend's sign.
 #[derive(Clone, Copy, PartialEq, Eq)]
 pub enum Division {
-    UnsignedQuotient,
-    SignedQuotient,
-    UnsignedRemainder,
-    SignedRemainder,
+    Quotient(Reading),
+    Remainder(Reading),
 }
 
 #[derive(Clone, Copy, PartialEq, Eq)]
 pub enum Comparison {
     Equal,
     NotEqual,
-    Unsigned(Order),
-    Signed(Order),
+    Ordered(Reading, Order),
 }
 
 #[derive(Clone, Copy, PartialEq, Eq)]
@@ -36,9 +39,10 @@ pub enum Order {
     Greater,
 }
 
-// What the bits above a number become when it is widened.
+// The operators of one operand. An extension names the new width, a restriction its lowest and highest bit.
 #[derive(Clone, Copy, PartialEq, Eq)]
-pub enum Extension {
-    Zeros,
-    Sign,
+pub enum UnaryOp {
+    Not,
+    Extend(Reading, u8),
+    Restrict(u8, u8),
 }

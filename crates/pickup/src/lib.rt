@@ -2,9 +2,10 @@
 
 ghost use Rattle.std.specs.Prelude.{◌≡◌};
 ghost use Rattle.value.specs.Outcome.{outcome};
-ghost use Rattle.pickup.specs.Samples.{decision, sample_in, is_negative, magnitude_of, is_picked_up, Measures, Reaches, next_word};
+ghost use Rattle.pickup.specs.Samples.{decision, sample_in, zero_of, is_negative, magnitude_of, is_picked_up, Measures, Reaches, next_word};
 
 use answer::faults::Fault;
+use answer::rules::require;
 use operator::binary::apply;
 use operator::bits::*;
 use operator::ops::*;
@@ -24,40 +25,42 @@ pub fn decide(condition: Value) -> Result<bool, Fault>
     ensures { result ≡ decision condition.row }
 {
     let row = condition.row();
-    if !row.defined {
-        Err(Fault::UndefinedUsed)
-    } else if row.region != Region::Cst {
-        Err(Fault::NoExactValue)
-    } else {
-        Ok(row.number == 1)
-    }
+    require(row.defined, Fault::UndefinedUsed)?;
+    require(row.region == Region::Cst, Fault::NoExactValue)?;
+    Ok(row.number == 1)
 }
 
 // The sample of a word, with its sign.
 pub fn sample(word: Value) -> Result<Value, Fault>
     ensures { outcome result ≡ sample_in word.row }
 {
-    extend(
-        Extension::Sign,
-        restrict(word, 0, SAMPLE_TOP)?,
-        ADDRESS_WIDTH,
-    )
+    let bits = restrict(word, 0, SAMPLE_TOP)?;
+    extend(Reading::Signed, bits, ADDRESS_WIDTH)
+}
+
+// Zero in the bits of a sample.
+fn zero_of(sample: Value) -> Result<Value, Fault>
+    ensures { outcome result ≡ zero_of sample.row }
+{
+    Value::from_bits(sample.width(), 0)
 }
 
 fn negative(sample: Value) -> Result<bool, Fault>
     ensures { result ≡ is_negative sample.row }
 {
-    let zero = Value::from_bits(sample.width(), 0)?;
-    let less = BinaryOp::Compare(Comparison::Signed(Order::Less));
+    let zero = zero_of(sample)?;
+    let less = BinaryOp::Compare(Comparison::Ordered(Reading::Signed, Order::Less));
     decide(apply(less, sample, zero, &[])?)
 }
 
 // The magnitude of a number is the size of what its bits mean.
+#[tactic(auto, using(crate::proofs::Sizes::measures))]
 fn measures()
     ensures { Measures }
 {}
 
 // A number is picked up exactly where it is not below the setting.
+#[tactic(auto, using(crate::proofs::Sizes::reaches))]
 fn reaches()
     ensures { Reaches }
 {}
@@ -69,7 +72,7 @@ pub fn magnitude(sample: Value) -> Result<Value, Fault>
 {
     measures();
     if negative(sample)? {
-        let zero = Value::from_bits(sample.width(), 0)?;
+        let zero = zero_of(sample)?;
         apply(BinaryOp::Sub, zero, sample, &[])
     } else {
         Ok(sample)
@@ -82,7 +85,7 @@ pub fn picked_up(magnitude: Value, setting: Value) -> Result<bool, Fault>
     ensures law { Reaches }
 {
     reaches();
-    let at_least = BinaryOp::Compare(Comparison::Unsigned(Order::GreaterOrEqual));
+    let at_least = BinaryOp::Compare(Comparison::Ordered(Reading::Unsigned, Order::GreaterOrEqual));
     decide(apply(at_least, magnitude, setting, &[])?)
 }
 

@@ -5,7 +5,6 @@ ghost use Rattle.value.specs.declared.rows.Region.TheVariants.{Malloc};
 ghost use Rattle.pickup.specs.Samples.{sample_in, magnitude_of};
 
 use answer::faults::Fault;
-use law::readings::Reading;
 use operator::binary::apply;
 use operator::bits::*;
 use operator::ops::*;
@@ -51,7 +50,8 @@ struct Sample {
 }
 
 fn sample_of(bits: u64) -> Result<Sample, Fault>
-    ensures { IfOk result (λ s. (Ok s.wide.row ≡ sample_in s.word.row) × (Ok s.magnitude.row ≡ magnitude_of s.wide.row)) }
+    ensures wide { IfOk result (λ s. Ok s.wide.row ≡ sample_in s.word.row) }
+    ensures magnitude { IfOk result (λ s. Ok s.magnitude.row ≡ magnitude_of s.wide.row) }
 {
     let word = Value::from_bits(pickup::WORD_TOP + 1, bits)?;
     let channel = restrict(word, pickup::SAMPLE_TOP + 1, pickup::WORD_TOP)?;
@@ -68,11 +68,13 @@ fn sample_of(bits: u64) -> Result<Sample, Fault>
 }
 
 fn show_sample(rt: &HostRuntime, pointer: Value, sample: Sample, reaches: bool) -> io::Result<()> {
-    let word = sample.word;
-    let channel = sample.channel;
-    let bits = sample.bits;
-    let wide = sample.wide;
-    let magnitude = sample.magnitude;
+    let Sample {
+        word,
+        channel,
+        bits,
+        wide,
+        magnitude,
+    } = sample;
     let verdict = if reaches {
         "reaches the setting"
     } else {
@@ -95,7 +97,7 @@ fn visit(rt: &HostRuntime, walk: Walk, bits: u64, setting: Value) -> anyhow::Res
     let sample = sample_of(bits)?;
     let reaches = pickup::picked_up(sample.magnitude, setting)?;
     show_sample(rt, walk.pointer, sample, reaches)?;
-    let more = number(if reaches { 1 } else { 0 })?;
+    let more = number(reaches as u64)?;
     Ok(Walk {
         pointer: walk.pointer,
         reached: apply(BinaryOp::Add, walk.reached, more, &REGIONS)?,
@@ -105,15 +107,14 @@ fn visit(rt: &HostRuntime, walk: Walk, bits: u64, setting: Value) -> anyhow::Res
 
 // The walk over all samples, which ends at the last one.
 fn walk_window(rt: &HostRuntime, setting: Value) -> anyhow::Result<Walk> {
-    let mut walk = Walk {
+    let start = Walk {
         pointer: window_at(0),
         reached: number(0)?,
         sum: number(0)?,
     };
-    for (i, bits) in WINDOW.iter().enumerate() {
-        if i > 0 {
-            walk.pointer = pickup::next(walk.pointer, &REGIONS)?;
-        }
+    let mut walk = visit(rt, start, WINDOW[0], setting)?;
+    for bits in &WINDOW[1..] {
+        walk.pointer = pickup::next(walk.pointer, &REGIONS)?;
         walk = visit(rt, walk, *bits, setting)?;
     }
     Ok(walk)
@@ -124,7 +125,7 @@ fn show_decision(rt: &HostRuntime, walk: Walk) -> anyhow::Result<()> {
     let needed = number(NEEDED)?;
     let sum = walk.sum;
     let count = number(WINDOW.len() as u64)?;
-    let (mean, rest) = lawful::divide(Reading::Plain, sum, count)?;
+    let (mean, rest) = lawful::divide(Reading::Unsigned, sum, count)?;
     let verdict = if pickup::picked_up(reached, needed)? {
         "the relay must pick up"
     } else {
@@ -167,7 +168,7 @@ fn show_faults(rt: &HostRuntime) -> anyhow::Result<()> {
     let start = window_at(0);
     let zero = number(0)?;
     let unknown = Value::undefined(ADDRESS_WIDTH)?;
-    let quotient = BinaryOp::Divide(Division::UnsignedQuotient);
+    let quotient = BinaryOp::Divide(Division::Quotient(Reading::Unsigned));
     let magnitude = Answer(magnitude);
     let sum = Answer(apply(BinaryOp::Add, start, start, &REGIONS));
     let mean = Answer(apply(quotient, zero, zero, &REGIONS));

@@ -1,5 +1,0 @@
-use Rattle.law.proofs.Offsets.{leads}
-use Rattle.law.proofs.theorems.leads.Goals as goal
-
-pub returns : goal.returns
-returns c = leads

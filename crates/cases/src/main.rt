@@ -19,70 +19,63 @@ use vector::tally::Tally;
 use vector::working;
 use vector::working::Case;
 
-fn try_case(
-    rt: &HostRuntime,
-    line: u64,
-    case: Case,
-    expected: Result<Value, Fault>,
-    regions: &[RegionRecord],
-    tally: &mut Tally,
-) -> io::Result<()>
-    ensures { (agreed : Bool) × Decides agreed (worked regions.now case ≡ outcome expected) × (tally.new ≡ with_case agreed tally.old) }
-{
-    let answer = working::evaluate(case, regions);
-    let agreed = working::agrees(answer, expected);
-    tally.count_case(agreed);
-    if agreed {
-        return Ok(());
-    }
-    let answer = Answer(answer);
-    let expected = Answer(expected);
-    println!(rt; "line {line}: expected {expected}, worked out {answer}")
+// What is kept from line to line: the malloc regions that cases are tried with, and the tally.
+#[derive(Drop)]
+struct Bench {
+    regions: Vec<RegionRecord>,
+    tally: Tally,
+    ghost few: { vec_len regions ≤ 64 },
 }
 
-fn take_line(
-    rt: &HostRuntime,
-    line: u64,
-    text: &[u8],
-    regions: &mut Vec<RegionRecord>,
-    tally: &mut Tally,
-) -> io::Result<()>
-    ensures table { vec_len regions.old ≤ 64 → vec_len regions.new ≤ 64 }
-    ensures counts { Counted tally.old tally.new }
-{
-    match reading::read(rt.alloc(), text) {
-        Ok(Entry::Nothing) => Ok(()),
-        Ok(Entry::Sizes(table)) => {
-            *regions = table;
-            Ok(())
+impl Bench {
+    fn try_case(
+        &mut self,
+        rt: &HostRuntime,
+        line: u64,
+        case: Case,
+        expected: Result<Value, Fault>,
+    ) -> io::Result<()>
+        ensures regions { self.new.regions ≡ self.old.regions }
+        ensures counts { (agreed : Bool) × Decides agreed (worked self.old.regions.items case ≡ outcome expected) × (self.new.tally ≡ with_case agreed self.old.tally) }
+    {
+        let answer = working::evaluate(case, self.regions.as_slice());
+        let agreed = working::agrees(answer, expected);
+        self.tally.count_case(agreed);
+        if agreed {
+            return Ok(());
         }
-        Ok(Entry::Try(case, expected)) => try_case(
-            rt,
-            line,
-            case,
-            expected,
-            regions.as_slice(),
-            tally,
-        ),
-        Err(Unread::Malformed(reason)) => {
-            tally.count_malformed();
-            println!(rt; "line {line}: malformed: {reason}")
+        let answer = Answer(answer);
+        let expected = Answer(expected);
+        println!(rt; "line {line}: expected {expected}, worked out {answer}")
+    }
+
+    fn take_line(&mut self, rt: &HostRuntime, line: u64, text: &[u8]) -> io::Result<()>
+        ensures { Counted self.old.tally self.new.tally }
+    {
+        match reading::read(rt.alloc(), text) {
+            Ok(Entry::Nothing) => Ok(()),
+            Ok(Entry::Sizes(regions)) => {
+                self.regions = regions;
+                Ok(())
+            }
+            Ok(Entry::Try(case, expected)) => self.try_case(rt, line, case, expected),
+            Err(Unread::Malformed(reason)) => {
+                self.tally.count_malformed();
+                println!(rt; "line {line}: malformed: {reason}")
+            }
+            Err(Unread::NoMemory) => Err(AllocError.into()),
         }
-        Err(Unread::NoMemory) => Err(AllocError.into()),
     }
 }
 
 fn main(rt: HostRuntime) -> io::Result<()> {
-    let mut input = BufReader::new(rt.alloc(), rt.stdin())?;
-    let mut text = Vec::new(rt.alloc());
-    let mut regions = Vec::new(rt.alloc());
-    let mut tally = Tally::new();
-    for line in 1..u64::MAX {
-        text.clear();
-        if input.read_until(b'\n', &mut text)? == 0 {
-            break;
-        }
-        take_line(&rt, line, text.as_slice(), &mut regions, &mut tally)?;
+    let input = BufReader::new(rt.alloc(), rt.stdin())?;
+    let mut bench = Bench {
+        regions: Vec::new(rt.alloc()),
+        tally: Tally::new(),
+    };
+    for (line, text) in (1..).zip(input.split(rt.alloc(), b'\n')) {
+        bench.take_line(&rt, line, text?.as_slice())?;
     }
-    println!(rt; "{tally}")
+    println!(rt; "{}", bench.tally)
 }

@@ -15,33 +15,42 @@ const AND: BinaryOp = BinaryOp::And;
 
 const OR: BinaryOp = BinaryOp::Or;
 
-const DIV_U: BinaryOp = BinaryOp::Divide(Division::UnsignedQuotient);
+const DIV_U: BinaryOp = BinaryOp::Divide(Division::Quotient(Reading::Unsigned));
 
-const DIV_S: BinaryOp = BinaryOp::Divide(Division::SignedQuotient);
+const DIV_S: BinaryOp = BinaryOp::Divide(Division::Quotient(Reading::Signed));
 
-const REM_U: BinaryOp = BinaryOp::Divide(Division::UnsignedRemainder);
+const REM_U: BinaryOp = BinaryOp::Divide(Division::Remainder(Reading::Unsigned));
 
-const REM_S: BinaryOp = BinaryOp::Divide(Division::SignedRemainder);
+const REM_S: BinaryOp = BinaryOp::Divide(Division::Remainder(Reading::Signed));
 
 const EQ: BinaryOp = BinaryOp::Compare(Comparison::Equal);
 
 const NE: BinaryOp = BinaryOp::Compare(Comparison::NotEqual);
 
-const LT_U: BinaryOp = BinaryOp::Compare(Comparison::Unsigned(Order::Less));
+const LT_U: BinaryOp = BinaryOp::Compare(Comparison::Ordered(Reading::Unsigned, Order::Less));
 
-const LE_U: BinaryOp = BinaryOp::Compare(Comparison::Unsigned(Order::LessOrEqual));
+const LE_U: BinaryOp = BinaryOp::Compare(Comparison::Ordered(
+    Reading::Unsigned,
+    Order::LessOrEqual,
+));
 
-const GE_U: BinaryOp = BinaryOp::Compare(Comparison::Unsigned(Order::GreaterOrEqual));
+const GE_U: BinaryOp = BinaryOp::Compare(Comparison::Ordered(
+    Reading::Unsigned,
+    Order::GreaterOrEqual,
+));
 
-const GT_U: BinaryOp = BinaryOp::Compare(Comparison::Unsigned(Order::Greater));
+const GT_U: BinaryOp = BinaryOp::Compare(Comparison::Ordered(Reading::Unsigned, Order::Greater));
 
-const LT_S: BinaryOp = BinaryOp::Compare(Comparison::Signed(Order::Less));
+const LT_S: BinaryOp = BinaryOp::Compare(Comparison::Ordered(Reading::Signed, Order::Less));
 
-const LE_S: BinaryOp = BinaryOp::Compare(Comparison::Signed(Order::LessOrEqual));
+const LE_S: BinaryOp = BinaryOp::Compare(Comparison::Ordered(Reading::Signed, Order::LessOrEqual));
 
-const GE_S: BinaryOp = BinaryOp::Compare(Comparison::Signed(Order::GreaterOrEqual));
+const GE_S: BinaryOp = BinaryOp::Compare(Comparison::Ordered(
+    Reading::Signed,
+    Order::GreaterOrEqual,
+));
 
-const GT_S: BinaryOp = BinaryOp::Compare(Comparison::Signed(Order::Greater));
+const GT_S: BinaryOp = BinaryOp::Compare(Comparison::Ordered(Reading::Signed, Order::Greater));
 
 // The highest number of 64 bits, which is -1 in two's complement, and the lowest one in two's complement.
 const TOP: u64 = u64::MAX;
@@ -49,11 +58,10 @@ const TOP: u64 = u64::MAX;
 const LOWEST: u64 = 1 << 63;
 
 fn give(width: u8, cases: &[(BinaryOp, u64, u64, u64)]) -> Result<(), Fail> {
-    for case in cases {
-        let left = Value::from_bits(width, case.1)?;
-        let right = Value::from_bits(width, case.2)?;
-        let result = apply(case.0, left, right, &[])?;
-        if result.number() != case.3 {
+    for &(op, m, n, expected) in cases {
+        let left = Value::from_bits(width, m)?;
+        let right = Value::from_bits(width, n)?;
+        if apply(op, left, right, &[])?.number() != expected {
             return Err(Fail::new("another result"));
         }
     }
@@ -155,45 +163,42 @@ fn sixty_four_bits() -> Result<(), Fail> {
     )
 }
 
-fn is_number(got: Result<Value, Fault>, width: u8, number: u64) -> Result<(), Fail> {
-    let v = got?;
-    if v.width() != width || v.number() != number {
-        return Err(Fail::new("another number"));
-    }
+// The width and the number of a value.
+fn numbered(got: Result<Value, Fault>) -> Result<(u8, u64), Fault> {
+    got.map(|value| (value.width(), value.number()))
+}
+
+#[test]
+fn bits(rt: HostRuntime) -> Result<(), Fail> {
+    let bit = Value::from_bits(1, 1)?;
+    let wide = Value::from_bits(64, LOWEST)?;
+    assert_eq!(rt; numbered(not(bit)), Ok((1, 0)));
+    assert_eq!(rt; numbered(not(wide)), Ok((64, LOWEST - 1)));
+    assert_eq!(rt; numbered(extend(Reading::Unsigned, bit, 64)), Ok((64, 1)));
+    assert_eq!(rt; numbered(extend(Reading::Signed, bit, 64)), Ok((64, TOP)));
+    assert_eq!(rt;
+        numbered(extend(Reading::Unsigned, bit, 65)),
+        Err(Fault::NoExactValue)
+    );
+    assert_eq!(rt;
+        numbered(extend(Reading::Signed, wide, 64)),
+        Err(Fault::NoExactValue)
+    );
+    assert_eq!(rt; numbered(restrict(wide, 63, 63)), Ok((1, 1)));
+    assert_eq!(rt; numbered(restrict(wide, 0, 63)), Ok((64, LOWEST)));
     Ok(())
 }
 
-fn is_refused(got: Result<Value, Fault>) -> Result<(), Fail> {
-    match got {
-        Ok(_) => Err(Fail::new("a value")),
-        Err(Fault::NoExactValue) => Ok(()),
-        Err(_) => Err(Fail::new("another fault")),
-    }
-}
-
 #[test]
-fn bits() -> Result<(), Fail> {
-    let bit = Value::from_bits(1, 1)?;
-    let wide = Value::from_bits(64, LOWEST)?;
-    is_number(not(bit), 1, 0)?;
-    is_number(not(wide), 64, LOWEST - 1)?;
-    is_number(extend(Extension::Zeros, bit, 64), 64, 1)?;
-    is_number(extend(Extension::Sign, bit, 64), 64, TOP)?;
-    is_refused(extend(Extension::Zeros, bit, 65))?;
-    is_refused(extend(Extension::Sign, wide, 64))?;
-    is_number(restrict(wide, 63, 63), 1, 1)?;
-    is_number(restrict(wide, 0, 63), 64, LOWEST)
-}
-
-#[test]
-fn joins() -> Result<(), Fail> {
+fn joins(rt: HostRuntime) -> Result<(), Fail> {
     let bit = Value::from_bits(1, 1)?;
     let wide = Value::from_bits(64, LOWEST)?;
     let most = Value::from_bits(63, 1)?;
-    is_number(concatenate(bit, bit), 2, 3)?;
-    is_number(concatenate(most, bit), 64, LOWEST + 1)?;
-    is_number(concatenate(bit, most), 64, 3)?;
-    is_refused(concatenate(wide, bit))?;
-    is_refused(restrict(wide, 0, 64))?;
-    is_refused(restrict(wide, 1, 0))
+    assert_eq!(rt; numbered(concatenate(bit, bit)), Ok((2, 3)));
+    assert_eq!(rt; numbered(concatenate(most, bit)), Ok((64, LOWEST + 1)));
+    assert_eq!(rt; numbered(concatenate(bit, most)), Ok((64, 3)));
+    assert_eq!(rt; numbered(concatenate(wide, bit)), Err(Fault::NoExactValue));
+    assert_eq!(rt; numbered(restrict(wide, 0, 64)), Err(Fault::NoExactValue));
+    assert_eq!(rt; numbered(restrict(wide, 1, 0)), Err(Fault::NoExactValue));
+    Ok(())
 }

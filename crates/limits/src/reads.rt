@@ -76,11 +76,7 @@ fn lines(rt: HostRuntime) {
 
 // A line of as many sizes.
 fn sizes(heap: Global, count: usize) -> Result<String, AllocError> {
-    let mut line = String::from_str(heap, "sizes")?;
-    for _ in 0..count {
-        line.push_str(" 65535")?;
-    }
-    Ok(line)
+    format!(in heap; "sizes{}", " 65535".repeat(heap, count)?)
 }
 
 #[test]

@@ -40,9 +40,7 @@ fn widths(rt: HostRuntime) {
 // A drawn number keeps the low bits that its width has room for.
 #[test]
 fn drawn_numbers(rt: HostRuntime) -> Result<(), Fail> {
-    let Ok(bit) = Value::from_bits(1, u64::MAX) else {
-        return Err(Fail::new("no value"));
-    };
+    let bit = Value::from_bits(1, u64::MAX)?;
     assert_eq!(rt; bit.number(), 1);
     assert_eq!(rt;
         Value::from_offset(Region::Stack, u64::MAX).number(),

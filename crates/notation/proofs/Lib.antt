@@ -1,1 +1,3 @@
+mod Blanks
 mod Cuts
+mod Ends

@@ -1,5 +1,5 @@
 -- How values and results are written.
-use Rattle.std.specs.Prelude.{◌≡◌, ℕ, ◌-◌, ◌≤◌, true, ◌⊎◌, List, ◌++◌, Ok, Err, codes, Result, ◌≢◌}
+use Rattle.std.specs.Prelude.{◌≡◌, ℕ, ◌-◌, ◌<◌, ◌≤◌, true, ◌⊎◌, List, ◌++◌, Ok, Err, codes, Result, ◌≢◌}
 use Rattle.std.specs.Str.Parse.{IsNumeral, digits_value}
 use Rattle.answer.specs.declared.faults.Fault.{Fault}
 use Rattle.answer.specs.Numbers.{fault_number}
@@ -12,6 +12,10 @@ use Rattle.value.specs.Rows.{plain, undefined_row, address_width}
 -- digits, at least one
 abbrev pub Writes : List ℕ → ℕ → Type 0
 Writes ds n = IsNumeral 10 ds × (n ≡ digits_value 10 ds)
+
+-- digits, at least one, of a number below a limit
+abbrev pub NumeralBelow : ℕ → List ℕ → Type 0
+NumeralBelow limit ds = IsNumeral 10 ds × (digits_value 10 ds < limit)
 
 -- `I,J}`
 abbrev pub Span : List ℕ → ℕ → ℕ → Type 0

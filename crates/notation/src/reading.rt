@@ -1,17 +1,17 @@
-// Text to cases. It is proved that what is read stands in the text, word by word; that each well-formed text is read is
-// proved of decimals, faults and operators of two operands, and tested of the rest, as is the cut into words.
-ghost use Rattle.std.specs.Prelude.{◌≡◌, ℕ, ◌+◌, ◌^◌, ◌<◌, ◌≤◌, length, IfSome, IfOk, vec_len, MatchOption, ◌≢◌};
-ghost use Rattle.std.specs.List.{AllByRecursion};
+// Text to cases. It is proved how a line is cut into words, and that what is read stands in them, word by word; that each
+// well-formed text is read is proved of decimals, widths, faults and operators of two operands, and tested of the rest.
+ghost use Rattle.std.specs.Prelude.{◌≡◌, ℕ, ◌+◌, ◌^◌, ◌<◌, ◌≤◌, length, IfSome, IfOk, vec_len, MatchOption, ◌≢◌, map};
+ghost use Rattle.notation.specs.Lines.{words_of, line_text};
 ghost use Rattle.std.specs.Option.{SomeIff};
 ghost use Rattle.std.specs.Str.Parse.{IsNumeral, digits_value};
-ghost use Rattle.answer.specs.Numbers.{fault_number};
 ghost use Rattle.notation.specs.declared.reading.Unread.TheVariants.{Malformed, NoMemory};
-ghost use Rattle.notation.specs.Texts.{Span, NumberText, UndefinedText, PointerText, RowText, ResultText};
-ghost use Rattle.notation.specs.Words.{operator_word, OfTwo, OfOne, Fresh, TriesOne, TriesTwo, OfWords, Few};
+ghost use Rattle.notation.specs.Texts.{NumeralBelow, Span, NumberText, UndefinedText, PointerText, RowText, ResultText};
+ghost use Rattle.notation.specs.Words.{operator_word, UnaryWord, OfTwo, OfOne, OfSize, OfSizes, TriesOne, TriesTwo, OfWords, Few};
 
 use answer::faults::Fault;
+use answer::rules::require;
 use operator::ops::*;
-use std::alloc::{AllocError, AllocFailed, Global};
+use std::alloc::{AllocError, Global};
 use std::fmt;
 use value::rows::*;
 use value::values::{ADDRESS_WIDTH, Value};
@@ -41,14 +41,14 @@ pub enum Reason {
 
 impl fmt::Display for Reason {
     fn fmt<W: fmt::Write>(&self, f: &mut fmt::Formatter<W>) -> fmt::Result {
-        match self {
-            Reason::NotText => write!(f, "not UTF-8 text"),
-            Reason::NoCase => write!(f, "neither a case nor sizes"),
-            Reason::NoOperator => write!(f, "no such operator"),
-            Reason::NoValue => write!(f, "no such value"),
-            Reason::NoResult => write!(f, "no such result"),
-            Reason::NoSizes => write!(f, "no such sizes"),
-        }
+        f.write_str(match self {
+            Reason::NotText => "not UTF-8 text",
+            Reason::NoCase => "neither a case nor sizes",
+            Reason::NoOperator => "no such operator",
+            Reason::NoValue => "no such value",
+            Reason::NoResult => "no such result",
+            Reason::NoSizes => "no such sizes",
+        })
     }
 }
 
@@ -75,26 +75,15 @@ impl From<AllocError> for Unread {
     }
 }
 
-impl<T: Drop> From<AllocFailed<T>> for Unread {
-    ghost from_gives = { λ _ r. r ≡ NoMemory };
-
-    fn from(_: AllocFailed<T>) -> Unread {
-        Unread::NoMemory
-    }
-}
-
 // Digits and nothing else, at least one.
 fn decimal(text: &str) -> Option<u64>
-    ensures { SomeIff result (IsNumeral 10 text.now × (digits_value 10 text.now < 2 ^ 64)) (digits_value 10 text.now) }
+    ensures { SomeIff result (NumeralBelow (2 ^ 64) text.now) (digits_value 10 text.now) }
 {
-    if text.starts_with('+') {
-        return None;
-    }
-    text.parse::<u64>().ok()
+    text.parse().ok().filter(|_| !text.starts_with('+'))
 }
 
 fn byte(text: &str) -> Option<u8>
-    ensures { SomeIff result (IsNumeral 10 text.now × (digits_value 10 text.now < 2 ^ 8)) (digits_value 10 text.now) }
+    ensures { SomeIff result (NumeralBelow (2 ^ 8) text.now) (digits_value 10 text.now) }
 {
     u8::try_from(decimal(text)?).ok()
 }
@@ -107,31 +96,26 @@ fn range(text: &str) -> Option<(u8, u8)>
     Some((byte(low)?, byte(high)?))
 }
 
+// A number of 8 bits that is not 0.
+fn width(text: &str) -> Option<u8>
+    ensures { SomeIff result (NumeralBelow (2 ^ 8) text.now × (1 ≤ digits_value 10 text.now)) (digits_value 10 text.now) }
+{
+    byte(text).filter(|width| *width > 0)
+}
+
 // `W:N`, the number N of width W.
 fn number(text: &str) -> Option<Row>
     ensures { IfSome result (NumberText text.now) }
 {
-    let (width, number) = text.split_once(':')?;
-    Some(Row {
-        number: decimal(number)?,
-        region: Region::Cst,
-        defined: true,
-        low: 0,
-        high: byte(width)?.checked_sub(1)?,
-    })
+    let (digits, number) = text.split_once(':')?;
+    Some(Row::plain(Region::Cst, width(digits)?, decimal(number)?))
 }
 
 // `W`, the undefined value of that width.
 fn undefined(text: &str) -> Option<Row>
     ensures { IfSome result (UndefinedText text.now) }
 {
-    Some(Row {
-        number: 0,
-        region: Region::Cst,
-        defined: false,
-        low: 0,
-        high: byte(text)?.checked_sub(1)?,
-    })
+    Some(Row::undefined(width(text)?))
 }
 
 // `N`, an offset in a region, or `N{I,J}`, some of its bits and not all.
@@ -139,25 +123,15 @@ fn pointer(region: Region, text: &str) -> Option<Row>
     ensures { IfSome result (PointerText region text.now) }
 {
     let Some((offset, bits)) = text.split_once('{') else {
-        return Some(Row {
-            number: decimal(text)?,
-            region,
-            defined: true,
-            low: 0,
-            high: ADDRESS_WIDTH - 1,
-        });
+        return Some(Row::plain(region, ADDRESS_WIDTH, decimal(text)?));
     };
     let (low, high) = range(bits)?;
-    if low == 0 && high == ADDRESS_WIDTH - 1 {
-        return None;
-    }
-    Some(Row {
-        number: decimal(offset)?,
-        region,
-        defined: true,
+    let row = Row {
         low,
         high,
-    })
+        ..Row::plain(region, ADDRESS_WIDTH, decimal(offset)?)
+    };
+    row.is_part().then_some(row)
 }
 
 // `C:W:N`, `U:W`, and with a region `S` or `Mk` in front `S:N` and `S:N{I,J}`.
@@ -179,33 +153,12 @@ fn value(text: &str) -> Option<Value>
     Value::from_row(row(text)?)
 }
 
-fn fault(number: u8) -> Option<Fault>
-    ensures { MatchOption result ((f : Fault) → fault_number f ≢ number) (λ f. fault_number f ≡ number) }
-{
-    match number {
-        1 => Some(Fault::UndefinedUsed),
-        2 => Some(Fault::NoExactValue),
-        3 => Some(Fault::ZeroDivisor),
-        4 => Some(Fault::OutsideRegion),
-        5 => Some(Fault::RegionFreed),
-        6 => Some(Fault::ReadDenied),
-        7 => Some(Fault::WriteDenied),
-        8 => Some(Fault::ExecutionDenied),
-        9 => Some(Fault::NoInstruction),
-        10 => Some(Fault::AssertFalse),
-        11 => Some(Fault::InvalidFree),
-        12 => Some(Fault::ChoicesSpent),
-        13 => Some(Fault::NoRoom),
-        _ => None,
-    }
-}
-
 // A value, or `!F` for the fault of that number.
 fn result(text: &str) -> Option<Result<Value, Fault>>
     ensures { IfSome result (ResultText text.now) }
 {
     match text.strip_prefix('!') {
-        Some(number) => Some(Err(fault(byte(number)?)?)),
+        Some(number) => Some(Err(Fault::try_from(byte(number)?).ok()?)),
         None => Some(Ok(value(text)?)),
     }
 }
@@ -217,124 +170,114 @@ fn binary_op(word: &str) -> Option<BinaryOp>
         "+" => Some(BinaryOp::Add),
         "-" => Some(BinaryOp::Sub),
         "*" => Some(BinaryOp::Mul),
-        "/u" => Some(BinaryOp::Divide(Division::UnsignedQuotient)),
-        "/s" => Some(BinaryOp::Divide(Division::SignedQuotient)),
-        "%u" => Some(BinaryOp::Divide(Division::UnsignedRemainder)),
-        "%s" => Some(BinaryOp::Divide(Division::SignedRemainder)),
+        "/u" => Some(BinaryOp::Divide(Division::Quotient(Reading::Unsigned))),
+        "/s" => Some(BinaryOp::Divide(Division::Quotient(Reading::Signed))),
+        "%u" => Some(BinaryOp::Divide(Division::Remainder(Reading::Unsigned))),
+        "%s" => Some(BinaryOp::Divide(Division::Remainder(Reading::Signed))),
         "and" => Some(BinaryOp::And),
         "or" => Some(BinaryOp::Or),
         "=" => Some(BinaryOp::Compare(Comparison::Equal)),
         "!=" => Some(BinaryOp::Compare(Comparison::NotEqual)),
-        "<u" => Some(BinaryOp::Compare(Comparison::Unsigned(Order::Less))),
-        "<=u" => Some(BinaryOp::Compare(Comparison::Unsigned(Order::LessOrEqual))),
-        ">=u" => Some(BinaryOp::Compare(Comparison::Unsigned(Order::GreaterOrEqual))),
-        ">u" => Some(BinaryOp::Compare(Comparison::Unsigned(Order::Greater))),
-        "<s" => Some(BinaryOp::Compare(Comparison::Signed(Order::Less))),
-        "<=s" => Some(BinaryOp::Compare(Comparison::Signed(Order::LessOrEqual))),
-        ">=s" => Some(BinaryOp::Compare(Comparison::Signed(Order::GreaterOrEqual))),
-        ">s" => Some(BinaryOp::Compare(Comparison::Signed(Order::Greater))),
+        "<u" => Some(BinaryOp::Compare(Comparison::Ordered(Reading::Unsigned, Order::Less))),
+        "<=u" => Some(BinaryOp::Compare(Comparison::Ordered(
+            Reading::Unsigned,
+            Order::LessOrEqual,
+        ))),
+        ">=u" => Some(BinaryOp::Compare(Comparison::Ordered(
+            Reading::Unsigned,
+            Order::GreaterOrEqual,
+        ))),
+        ">u" => Some(BinaryOp::Compare(Comparison::Ordered(Reading::Unsigned, Order::Greater))),
+        "<s" => Some(BinaryOp::Compare(Comparison::Ordered(Reading::Signed, Order::Less))),
+        "<=s" => Some(BinaryOp::Compare(Comparison::Ordered(Reading::Signed, Order::LessOrEqual))),
+        ">=s" => Some(BinaryOp::Compare(Comparison::Ordered(
+            Reading::Signed,
+            Order::GreaterOrEqual,
+        ))),
+        ">s" => Some(BinaryOp::Compare(Comparison::Ordered(Reading::Signed, Order::Greater))),
         _ => None,
     }
 }
 
-// `not`, `extu:K`, `exts:K` or `{I,J}`, of one operand.
+// `not`, `extu:K`, `exts:K` or `{I,J}`.
+fn unary_op(word: &str) -> Option<UnaryOp>
+    ensures { IfSome result (UnaryWord word.now) }
+{
+    match word.split_once(':') {
+        Some(("extu", width)) => Some(UnaryOp::Extend(Reading::Unsigned, byte(width)?)),
+        Some(("exts", width)) => Some(UnaryOp::Extend(Reading::Signed, byte(width)?)),
+        _ if word == "not" => Some(UnaryOp::Not),
+        _ => {
+            let (low, high) = range(word.strip_prefix('{')?)?;
+            Some(UnaryOp::Restrict(low, high))
+        }
+    }
+}
+
 fn case_of_one(word: &str, v: Value) -> Option<Case>
     ensures { IfSome result (OfOne word.now v) }
 {
-    if word == "not" {
-        return Some(Case::Not(v));
-    }
-    if let Some(width) = word.strip_prefix("extu:") {
-        return Some(Case::Extend(Extension::Zeros, v, byte(width)?));
-    }
-    if let Some(width) = word.strip_prefix("exts:") {
-        return Some(Case::Extend(Extension::Sign, v, byte(width)?));
-    }
-    let (low, high) = range(word.strip_prefix('{')?)?;
-    Some(Case::Restrict(v, low, high))
+    Some(Case::Unary(unary_op(word)?, v))
 }
 
 fn case_of_two(word: &str, left: Value, right: Value) -> Option<Case>
     ensures { IfSome result (OfTwo word.now left right) }
 {
-    if word == "::" {
-        return Some(Case::Concatenate(left, right));
+    match word {
+        "::" => Some(Case::Concatenate(left, right)),
+        _ => Some(Case::Binary(binary_op(word)?, left, right)),
     }
-    Some(Case::Binary(binary_op(word)?, left, right))
 }
 
 // A malloc region of the size that a word gives.
 fn region(word: &str) -> Option<RegionRecord>
-    ensures { IfSome result Fresh }
+    ensures { IfSome result (OfSize word.now) }
 {
-    let size = u16::try_from(decimal(word)?).ok()?;
-    if size == 0 {
-        return None;
-    }
+    let size = u16::try_from(decimal(word)?).ok().filter(|size| *size > 0)?;
     Some(RegionRecord { size, freed: false })
 }
 
 // The table of malloc regions that the words give the sizes of.
 fn regions(heap: Global, words: &[&str]) -> Result<Vec<RegionRecord>, Unread>
-    ensures { IfOk result (λ v. (vec_len v ≡ length words.now) × (vec_len v ≤ 64)) }
+    ensures sizes { IfOk result (λ v. OfSizes (map (λ w. w.now) words.now) v.items) }
+    ensures few { IfOk result (λ v. vec_len v ≤ 64) }
 {
-    if words.len() > MOST_SIZES {
-        return Err(Reason::NoSizes.into());
-    }
-    let mut table = Vec::new(heap);
-    for word in words {
-        table.push(region(word).ok_or(Reason::NoSizes)?)?;
-    }
-    Ok(table)
+    require(words.len() <= MOST_SIZES, Reason::NoSizes)?;
+    words
+        .iter()
+        .map(|word| region(word).ok_or(Unread::Malformed(Reason::NoSizes)))
+        .try_collect(heap)
 }
 
 fn words<'a>(heap: Global, text: &'a str) -> Result<Vec<&'a str>, AllocError>
-    ensures { IfOk result (λ v. AllByRecursion (λ w. 0 < length w.now) v.items) }
+    ensures { IfOk result (λ v. map (λ w. w.now) v.items ≡ words_of text.now) }
 {
-    let mut all = Vec::new(heap);
-    for word in text.split([' ', '\t']) {
-        if !word.is_empty() {
-            all.push(word)?;
-        }
-    }
-    Ok(all)
+    text.split([' ', '\t'])
+        .filter(|word| !word.is_empty())
+        .collect(heap)
 }
 
 fn try_one(op: &str, v: &str, expected: &str) -> Result<Entry, Reason>
     ensures { IfOk result (TriesOne op.now v.now expected.now) }
 {
-    let Some(v) = value(v) else {
-        return Err(Reason::NoValue);
-    };
-    let Some(case) = case_of_one(op, v) else {
-        return Err(Reason::NoOperator);
-    };
-    let Some(expected) = result(expected) else {
-        return Err(Reason::NoResult);
-    };
+    let v = value(v).ok_or(Reason::NoValue)?;
+    let case = case_of_one(op, v).ok_or(Reason::NoOperator)?;
+    let expected = result(expected).ok_or(Reason::NoResult)?;
     Ok(Entry::Try(case, expected))
 }
 
 fn try_two(op: &str, left: &str, right: &str, expected: &str) -> Result<Entry, Reason>
     ensures { IfOk result (TriesTwo op.now left.now right.now expected.now) }
 {
-    let Some(left) = value(left) else {
-        return Err(Reason::NoValue);
-    };
-    let Some(right) = value(right) else {
-        return Err(Reason::NoValue);
-    };
-    let Some(case) = case_of_two(op, left, right) else {
-        return Err(Reason::NoOperator);
-    };
-    let Some(expected) = result(expected) else {
-        return Err(Reason::NoResult);
-    };
+    let left = value(left).ok_or(Reason::NoValue)?;
+    let right = value(right).ok_or(Reason::NoValue)?;
+    let case = case_of_two(op, left, right).ok_or(Reason::NoOperator)?;
+    let expected = result(expected).ok_or(Reason::NoResult)?;
     Ok(Entry::Try(case, expected))
 }
 
 fn read_words(heap: Global, words: &[&str]) -> Result<Entry, Unread>
-    ensures { IfOk result (OfWords words.now) }
+    ensures { IfOk result (OfWords (map (λ w. w.now) words.now)) }
 {
     match words {
         [] => Ok(Entry::Nothing),
@@ -347,13 +290,11 @@ fn read_words(heap: Global, words: &[&str]) -> Result<Entry, Unread>
 
 // What a line says, with or without its end.
 pub fn read(heap: Global, line: &[u8]) -> Result<Entry, Unread>
-    ensures { IfOk result Few }
+    ensures words { IfOk result (OfWords (words_of (line_text line.now))) }
+    ensures few { IfOk result Few }
 {
-    let Ok(text) = std::str::from_utf8(line) else {
-        return Err(Reason::NotText.into());
-    };
+    let text = std::str::from_utf8(line).map_err(|_| Reason::NotText)?;
     let text = text.strip_suffix('\n').unwrap_or(text);
     let text = text.strip_suffix('\r').unwrap_or(text);
-    let words = words(heap, text)?;
-    read_words(heap, words.as_slice())
+    read_words(heap, words(heap, text)?.as_slice())
 }

@@ -7,10 +7,10 @@ next n = min (n + 1) (2 ^ 64 - 1)
 
 -- a case, and whether it agreed
 abbrev pub with_case : Bool → Tally → Tally
-with_case agreed t = record { tried = next t.tried; differ = cond agreed t.differ (next t.differ); malformed = t.malformed }
+with_case agreed t = record t { tried = next t.tried; differ = cond agreed t.differ (next t.differ) }
 
 abbrev pub with_malformed : Tally → Tally
-with_malformed t = record { tried = t.tried; differ = t.differ; malformed = next t.malformed }
+with_malformed t = record t { malformed = next t.malformed }
 
 -- a line counts once, as a case or as malformed, or not at all
 abbrev pub Counted : Tally → Tally → Type 0

@@ -4,7 +4,7 @@ ghost use Rattle.vector.specs.Counts.{with_case, with_malformed};
 use std::fmt;
 
 // What became of the lines. Only a well-formed case is tried.
-#[derive(Clone, Copy)]
+#[derive(Clone, Copy, Default)]
 pub struct Tally {
     tried: u64,
     differ: u64,
@@ -13,13 +13,11 @@ pub struct Tally {
 
 impl Tally {
     pub fn new() -> Tally
-        ensures { (result.tried ≡ 0) × ((result.differ ≡ 0) × (result.malformed ≡ 0)) }
+        ensures tried { result.tried ≡ 0 }
+        ensures differ { result.differ ≡ 0 }
+        ensures malformed { result.malformed ≡ 0 }
     {
-        Tally {
-            tried: 0,
-            differ: 0,
-            malformed: 0,
-        }
+        Tally::default()
     }
 
     pub fn count_case(&mut self, agreed: bool)

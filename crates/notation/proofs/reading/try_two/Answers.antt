@@ -1,4 +1,12 @@
+use Rattle.std.proofs.lemmas.Option.{MatchOption-at_some}
 use Rattle.notation.proofs.reading.try_two.Goals as goal
 
 pub returns : goal.returns
-returns c = (c.in-Some.left, c.in-Some-value.right, c.in-Some.ensures, c.in-Some-value.ensures, c.in-Some-case_of_two.ensures, c.in-Some-result.ensures)
+returns c = (
+  c.in_ok-left.left,
+  c.in_ok-right.right,
+  MatchOption-at_some _ _ _ c.in_ok-left.ensures.ok_part c.value.ensures,
+  MatchOption-at_some _ _ _ c.in_ok-right.ensures.ok_part c.value-2.ensures,
+  MatchOption-at_some _ _ _ c.in_ok-case.ensures.ok_part c.case_of_two.ensures,
+  MatchOption-at_some _ _ _ c.in_ok-expected.ensures.ok_part c.result.ensures,
+)

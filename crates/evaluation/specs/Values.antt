@@ -10,12 +10,11 @@ use Rattle.value.specs.declared.rows.RegionRecord.{RegionRecord}
 use Rattle.value.specs.Rows.{Outcome, sound, plain, width}
 use Rattle.operator.specs.declared.ops.BinaryOp.{BinaryOp}
 use Rattle.operator.specs.Rules.{applied}
-use Rattle.operator.specs.Bits.{inverted, extended, restricted, concatenated}
+use Rattle.operator.specs.Bits.{changed, concatenated}
 use Rattle.expression.specs.declared.nodes.FixedRegion as fixed
 use Rattle.expression.specs.declared.nodes.FixedRegion.TheVariants as fixed_regions
 use Rattle.expression.specs.declared.nodes.Literal.{Literal}
-use Rattle.expression.specs.declared.nodes.UnaryOp.{UnaryOp}
-use Rattle.expression.specs.declared.nodes.UnaryOp.TheVariants.{Not, Extend, Restrict}
+use Rattle.operator.specs.declared.ops.UnaryOp.{UnaryOp}
 use Rattle.expression.specs.Walk.{Arith}
 use Rattle.expression.specs.Widths.{literal_fits, Fit, width_unary}
 
@@ -36,9 +35,7 @@ of_value x answer =
     Err NoExactValue
 
 abbrev pub unary_row : UnaryOp → Row → Outcome
-unary_row Not x = of_value x (inverted x)
-unary_row (Extend how k) x = of_value x (extended how x k)
-unary_row (Restrict i j) x = of_value x (restricted x i j)
+unary_row op x = of_value x (changed op x)
 
 -- where the rule of a node of one operand gives a width, an item that the node gives has that width
 abbrev pub UnaryFits : Type 0

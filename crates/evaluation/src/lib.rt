@@ -4,6 +4,7 @@
 ghost use Rattle.evaluation.specs.Values.{UnaryFits};
 
 // A node of one operand gives an item of the width that its rule states, or a fault.
+#[tactic(auto, using(crate::proofs::Fits::wide_unary))]
 pub fn unary_fits()
     ensures { UnaryFits }
 {}

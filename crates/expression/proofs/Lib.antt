@@ -1,4 +1,3 @@
-pub mod Held
-pub mod Steps
+pub mod Goes
 pub mod Follow
 pub mod Counts

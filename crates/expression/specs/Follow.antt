@@ -3,7 +3,7 @@ use Rattle.std.specs.Prelude.{◌≡◌, ℕ, Bool, true, List, Ok, Err, Result}
 use Rattle.operator.specs.declared.ops.BinaryOp.{BinaryOp}
 use Rattle.expression.specs.declared.nodes.Literal.{Literal}
 use Rattle.expression.specs.declared.nodes.Access.{Access}
-use Rattle.expression.specs.declared.nodes.UnaryOp.{UnaryOp}
+use Rattle.operator.specs.declared.ops.UnaryOp.{UnaryOp}
 use Rattle.expression.specs.declared.nodes.Node.{Node}
 use Rattle.expression.specs.declared.nodes.Span.{Span}
 use Rattle.expression.specs.declared.stops.Cause.{Cause}

@@ -1,12 +1,12 @@
 -- What a walk over an expression gives, for any arithmetic.
-use Rattle.std.specs.Prelude.{◌≡◌, ℕ, ◌+◌, ◌≤◌, min, Bool, cond, ◌&&◌, List, [], ◌∷◌, reverse, length, take, drop, Ok, Err, Result, nat_le, nat_lt}
+use Rattle.std.specs.Prelude.{ℕ, ◌+◌, min, Bool, cond, ◌&&◌, List, [], ◌∷◌, length, take, drop, Some, None, Option, Ok, Err, Result, nat_le, nat_lt}
 use Rattle.answer.specs.First.{◌gives◌else◌}
 use Rattle.answer.specs.declared.faults.Layer.{Layer}
 use Rattle.answer.specs.declared.faults.Layer.TheVariants.{Arithmetic, Memory}
 use Rattle.operator.specs.declared.ops.BinaryOp.{BinaryOp}
 use Rattle.expression.specs.declared.nodes.Literal.{Literal}
 use Rattle.expression.specs.declared.nodes.Access.{Access}
-use Rattle.expression.specs.declared.nodes.UnaryOp.{UnaryOp}
+use Rattle.operator.specs.declared.ops.UnaryOp.{UnaryOp}
 use Rattle.expression.specs.declared.nodes.Node.{Node}
 use Rattle.expression.specs.declared.nodes.Node.TheVariants.{Constant, Variable, Read, Unary, Binary, Concatenate}
 use Rattle.expression.specs.declared.nodes.Span.{Span}
@@ -36,6 +36,11 @@ abbrev pub pushed : {I F : Type 0} → Layer → Result I F → List I → Resul
 pushed layer (Ok x) s = cond (nat_lt (length s) most_items) (Ok (x ∷ s)) (Err Full)
 pushed layer (Err f) s = Err (Fault layer f)
 
+-- what a node leaves: the items after it, or the cause
+abbrev pub leaves : {I F : Type 0} → List I → Result (Unit {0}) (Cause F) → Result (List I) (Cause F)
+leaves s (Ok u) = Ok s
+leaves s (Err c) = Err c
+
 -- a node that takes one operand, and one that takes two, of which the right one is on top
 abbrev pub on_one : {I F : Type 0} → Layer → (I → Result I F) → List I → Result (List I) (Cause F)
 on_one layer f [] = Err Missing
@@ -60,13 +65,14 @@ stepped a (Unary o) s = on_one Arithmetic (a.unary o) s
 stepped a (Binary o) s = on_two (a.binary o) s
 stepped a Concatenate s = on_two a.concatenation s
 
-abbrev pub stop : {F : Type 0} → ℕ → Cause F → Stopped F
+-- a walk that stops at a node, or at none where its span is not there
+abbrev pub stop : {F : Type 0} → Option ℕ → Cause F → Stopped F
 stop node cause = record { node = node; cause = cause }
 
 -- go on with what a node left, or stop at it
 abbrev pub at_node : {X Y F : Type 0} → ℕ → Result X (Cause F) → (X → Result Y (Stopped F)) → Result Y (Stopped F)
 at_node node (Ok x) rest = rest x
-at_node node (Err c) rest = Err (stop node c)
+at_node node (Err c) rest = Err (stop (Some node) c)
 
 -- the nodes ns in order up to the first fault; the first has the index i, and so the place i + 1
 abbrev pub runs : {I F : Type 0} → Arith I F → ℕ → List Node → List I → Result (List I) (Stopped F)
@@ -75,9 +81,9 @@ runs a i (n ∷ ns) s = at_node (i + 1) (stepped a n s) (λ t. runs a (i + 1) ns
 
 -- exactly one item is left; else the last node is the place
 abbrev pub only : {I F : Type 0} → ℕ → List I → Result I (Stopped F)
-only node [] = Err (stop node NotOne)
+only node [] = Err (stop (Some node) NotOne)
 only node (x ∷ []) = Ok x
-only node (x ∷ (y ∷ s)) = Err (stop node NotOne)
+only node (x ∷ (y ∷ s)) = Err (stop (Some node) NotOne)
 
 abbrev pub ended : {I F : Type 0} → ℕ → Result (List I) (Stopped F) → Result I (Stopped F)
 ended node (Ok s) = only node s
@@ -98,13 +104,4 @@ walked_inside a nodes s = ended (s.first + s.count) (runs a s.first (spanned nod
 abbrev pub walked : {I F : Type 0} → Arith I F → List Node → Span → Result I (Stopped F)
 walked a nodes s =
     spans (length nodes) s gives walked_inside a nodes s else
-    Err (stop 0 Outside)
-
--- the items held at the front of the lent stack, the last of the d first
-abbrev pub held : {I : Type 0} → ℕ → List I → List I
-held d xs = reverse (take d xs)
-
--- what is left of a node: the new depth over the changed stack, or the cause at the node
-abbrev pub Stepped : {I F : Type 0} → ℕ → List I → Result ℕ (Stopped F) → Result (List I) (Cause F) → Type 0
-Stepped node after (Ok d) want = (d ≤ most_items) × (want ≡ Ok (held d after))
-Stepped node after (Err e) want = (e.node ≡ node) × (want ≡ Err e.cause)
+    Err (stop None Outside)

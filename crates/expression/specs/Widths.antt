@@ -1,5 +1,6 @@
 -- The rules of widths, as an arithmetic whose items are bare widths.
-use Rattle.std.specs.Prelude.{◌≡◌, ℕ, ◌+◌, ◌-◌, ◌*◌, ◌^◌, Bool, true, cond, not, ◌&&◌, List, length, Ok, Err, Result, ◌==◌, nat_le, nat_lt, slice_index, refl}
+use Rattle.std.specs.Prelude.{◌≡◌, ℕ, ◌+◌, ◌-◌, ◌*◌, ◌^◌, Bool, true, cond, not, ◌&&◌, List, length, Some, None, Option, Ok, Err, Result, ◌==◌, nat_le, nat_lt, slice_index, refl}
+use Rattle.answer.specs.First.{required}
 use Rattle.value.specs.Rows.{address_width, widest, no_width}
 use Rattle.operator.specs.declared.ops.BinaryOp.{BinaryOp}
 use Rattle.operator.specs.Rules.{result_width}
@@ -7,8 +8,8 @@ use Rattle.expression.specs.declared.nodes.FixedRegion.{FixedRegion}
 use Rattle.expression.specs.declared.nodes.FixedRegion.TheVariants.{Cst, Stack}
 use Rattle.expression.specs.declared.nodes.Literal.{Literal}
 use Rattle.expression.specs.declared.nodes.Access.{Access}
-use Rattle.expression.specs.declared.nodes.UnaryOp.{UnaryOp}
-use Rattle.expression.specs.declared.nodes.UnaryOp.TheVariants.{Not, Extend, Restrict}
+use Rattle.operator.specs.declared.ops.UnaryOp.{UnaryOp}
+use Rattle.operator.specs.declared.ops.UnaryOp.TheVariants.{Not, Extend, Restrict}
 use Rattle.expression.specs.declared.stops.Defect.{Defect}
 use Rattle.expression.specs.declared.stops.Defect.TheVariants.{Unresolved, RuleBroken}
 use Rattle.expression.specs.Walk.{Arith}
@@ -36,6 +37,14 @@ declares ws v = nat_le 1 v && nat_le v (length ws)
 abbrev pub declared_width : List ℕ → ℕ → ℕ
 declared_width ws v = slice_index ws (v - 1)
 
+-- the width of a variable, where it is declared
+abbrev pub width_declared : List ℕ → ℕ → Option ℕ
+width_declared ws v = cond (declares ws v) (Some (declared_width ws v)) None
+
+-- the width of so many bytes, where an address of width w may be accessed so
+abbrev pub width_accessed : Access → ℕ → Option ℕ
+width_accessed r w = cond (bytes_fit r.bytes && w == address_width) (Some (8 * r.bytes)) None
+
 -- the width that a rule gives, where it holds
 abbrev pub by_rule : Bool → ℕ → Result ℕ Defect
 by_rule holds w = cond holds (Ok w) (Err RuleBroken)
@@ -43,7 +52,7 @@ by_rule holds w = cond holds (Ok w) (Err RuleBroken)
 -- An extension grows the width, and no width passes 64. A restriction {i,j} has 0 ≤ i ≤ j < width.
 abbrev pub width_unary : UnaryOp → ℕ → Result ℕ Defect
 width_unary Not x = Ok x
-width_unary (Extend how k) x = by_rule (nat_lt x k && nat_le k widest) k
+width_unary (Extend reading k) x = by_rule (nat_lt x k && nat_le k widest) k
 width_unary (Restrict i j) x = by_rule (nat_le i j && nat_lt j x) (j - i + 1)
 
 -- Declared widths ws; memory may be read or not. A read has an address of width 32, and two operands, save those of
@@ -52,7 +61,7 @@ abbrev pub width_arith : Bool → List ℕ → Arith ℕ Defect
 width_arith reads ws = record {
   constant = λ c. by_rule (literal_fits c) c.width;
   variable = λ v. cond (declares ws v) (Ok (declared_width ws v)) (Err Unresolved);
-  memory = cond reads (Ok tt) (Err Unresolved);
+  memory = required reads Unresolved;
   read = λ r x. by_rule (bytes_fit r.bytes && x == address_width) (8 * r.bytes);
   unary = width_unary;
   binary = λ op x y. by_rule (x == y) (result_width op x);

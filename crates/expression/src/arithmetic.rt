@@ -2,8 +2,8 @@ ghost use Rattle.std.specs.Prelude.{◌≡◌, ℕ, List};
 ghost use Rattle.expression.specs.Walk.{Arith};
 ghost use Rattle.expression.specs.Widths.{Sound};
 
-use crate::nodes::{Access, Literal, UnaryOp};
-use operator::ops::BinaryOp;
+use crate::nodes::{Access, Literal};
+use operator::ops::{BinaryOp, UnaryOp};
 
 // What the nodes of an expression are worked out in. Every arithmetic has its own kind of item, and every item a width.
 pub trait Arithmetic {

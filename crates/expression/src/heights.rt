@@ -29,6 +29,7 @@ pub fn most_held(nodes: &[Node]) -> usize
 }
 
 // No walk of an arithmetic holds more than the peak of its nodes, and one that gives an item holds at most 32.
+#[tactic(auto, using(crate::proofs::Counts::peaks))]
 pub fn peaks<A: Arithmetic>(arithmetic: &A)
     ensures { Peaks (A.gives arithmetic.now) }
 {}

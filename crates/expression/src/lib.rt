@@ -4,6 +4,7 @@
 pub mod arithmetic;
 pub mod heights;
 pub mod nodes;
+mod stack;
 pub mod stops;
 pub mod walks;
 pub mod widths;

@@ -1,7 +1,10 @@
-use operator::ops::{BinaryOp, Extension};
+ghost use Rattle.std.specs.Prelude.{◌≡◌};
+ghost use Rattle.expression.specs.Walk.{spanned};
+
+use operator::ops::{BinaryOp, UnaryOp};
 
 // The most nodes of a table.
-pub const NODES: u16 = 512;
+pub const NODES: usize = 512;
 
 // A region that every run has. A table can name no other.
 #[derive(Clone, Copy)]
@@ -32,14 +35,6 @@ pub struct Access {
     pub order: ByteOrder,
 }
 
-// The operators of one operand. An extension names the new width, a restriction its lowest and highest bit.
-#[derive(Clone, Copy)]
-pub enum UnaryOp {
-    Not,
-    Extend(Extension, u8),
-    Restrict(u8, u8),
-}
-
 // One node of an expression in postfix order: operands stand before their operator. Variables count from 1; a read
 // takes its address from the node before.
 #[derive(Clone, Copy)]
@@ -57,4 +52,12 @@ pub enum Node {
 pub struct Span {
     pub first: u16,
     pub count: u16,
+}
+
+// The nodes of a span, as far as the table has them.
+pub fn nodes_of(nodes: &[Node], span: Span) -> &[Node]
+    ensures { result.now ≡ spanned nodes.now span }
+{
+    let rest = nodes.get(span.first as usize..).unwrap_or(&[]);
+    rest.get(..span.count as usize).unwrap_or(rest)
 }

@@ -14,15 +14,15 @@ pub enum Cause<F> {
     Fault(Layer, F),
 }
 
-// A walk that stopped, at a node counted from 1 in the node table, 0 where no node is concerned.
+// A walk that stopped, at a node counted from 1 in the node table, or at none where its span is not there.
 #[derive(Clone, Copy)]
 pub struct Stopped<F> {
-    pub node: u16,
+    pub node: Option<u16>,
     pub cause: Cause<F>,
 }
 
 impl<F: Copy> Stopped<F> {
-    pub fn at(node: u16, cause: Cause<F>) -> Stopped<F>
+    pub fn at(node: Option<u16>, cause: Cause<F>) -> Stopped<F>
         ensures { result ≡ stop node cause }
     {
         Stopped { node, cause }

@@ -1,11 +1,12 @@
 ghost use Rattle.std.specs.Prelude.{◌≡◌};
-ghost use Rattle.expression.specs.Widths.{literal_fits, bytes_fit, declares, width_arith, width_unary, widths_sound};
+ghost use Rattle.expression.specs.Widths.{literal_fits, bytes_fit, declares, width_declared, width_accessed, width_arith, width_unary, widths_sound};
 
 use crate::arithmetic::Arithmetic;
-use crate::nodes::{Access, FixedRegion, Literal, UnaryOp};
+use crate::nodes::{Access, FixedRegion, Literal};
 use crate::stops::Defect;
+use answer::rules::require;
 use operator::binary::result_width;
-use operator::ops::BinaryOp;
+use operator::ops::{BinaryOp, UnaryOp};
 use value::makes::is_no_width;
 use value::values::{ADDRESS_WIDTH, WIDEST};
 
@@ -17,10 +18,7 @@ pub fn is_fitting(literal: Literal) -> bool
     ensures { result ≡ literal_fits literal }
 {
     let width = literal.width;
-    if is_no_width(width) {
-        return false;
-    }
-    let fits = width == WIDEST || literal.number < 1 << width;
+    let fits = !is_no_width(width) && (width == WIDEST || literal.number < 1 << width);
     match literal.region {
         FixedRegion::Cst => fits,
         FixedRegion::Stack => fits && width == ADDRESS_WIDTH,
@@ -31,14 +29,30 @@ pub fn is_fitting(literal: Literal) -> bool
 pub fn are_bytes(count: u8) -> bool
     ensures { result ≡ bytes_fit count }
 {
-    1 <= count && count <= MOST_BYTES
+    (1..=MOST_BYTES).contains(&count)
+}
+
+// The width of a variable, where it is declared.
+pub fn declared_width(declared: &[u8], variable: u8) -> Option<u8>
+    ensures { result ≡ width_declared declared.now variable }
+{
+    let index = variable.checked_sub(1)?;
+    declared.get(index as usize).copied()
+}
+
+// The width of the bytes that an access reads or writes at an address of a width, where both meet their rules.
+pub fn access_width(access: Access, address: u8) -> Option<u8>
+    ensures { result ≡ width_accessed access address }
+{
+    let fits = are_bytes(access.bytes) && address == ADDRESS_WIDTH;
+    fits.then(|| 8 * access.bytes)
 }
 
 // Whether a variable is declared.
 pub fn is_declared(declared: &[u8], variable: u8) -> bool
     ensures { result ≡ declares declared.now variable }
 {
-    1 <= variable && variable as usize <= declared.len()
+    declared_width(declared, variable).is_some()
 }
 
 // The arithmetic of bare widths: the rules of the check. Memory may be read or not.
@@ -62,35 +76,20 @@ impl<'a> Arithmetic for Widths<'a> {
     ghost sound = { λ a. widths_sound a.reads a.declared.now };
 
     fn constant(&self, literal: Literal) -> Result<u8, Defect> {
-        if is_fitting(literal) {
-            Ok(literal.width)
-        } else {
-            Err(Defect::RuleBroken)
-        }
+        require(is_fitting(literal), Defect::RuleBroken)?;
+        Ok(literal.width)
     }
 
     fn variable(&self, variable: u8) -> Result<u8, Defect> {
-        if is_declared(self.declared, variable) {
-            Ok(self.declared[variable as usize - 1])
-        } else {
-            Err(Defect::Unresolved)
-        }
+        declared_width(self.declared, variable).ok_or(Defect::Unresolved)
     }
 
     fn memory(&self) -> Result<(), Defect> {
-        if self.reads {
-            Ok(())
-        } else {
-            Err(Defect::Unresolved)
-        }
+        require(self.reads, Defect::Unresolved)
     }
 
     fn read(&self, access: Access, address: u8) -> Result<u8, Defect> {
-        if are_bytes(access.bytes) && address == ADDRESS_WIDTH {
-            Ok(8 * access.bytes)
-        } else {
-            Err(Defect::RuleBroken)
-        }
+        access_width(access, address).ok_or(Defect::RuleBroken)
     }
 
     fn unary(&self, op: UnaryOp, x: u8) -> Result<u8, Defect> {
@@ -103,18 +102,13 @@ impl<'a> Arithmetic for Widths<'a> {
     }
 
     fn binary(&self, op: BinaryOp, x: u8, y: u8) -> Result<u8, Defect> {
-        if x == y {
-            Ok(result_width(op, x))
-        } else {
-            Err(Defect::RuleBroken)
-        }
+        require(x == y, Defect::RuleBroken)?;
+        Ok(result_width(op, x))
     }
 
     fn concatenation(&self, x: u8, y: u8) -> Result<u8, Defect> {
-        if x <= WIDEST && y <= WIDEST - x {
-            Ok(x + y)
-        } else {
-            Err(Defect::RuleBroken)
-        }
+        x.checked_add(y)
+            .filter(|width| *width <= WIDEST)
+            .ok_or(Defect::RuleBroken)
     }
 }

@@ -12,10 +12,9 @@ use Rattle.expression.specs.declared.stops.Cause.TheVariants.{Missing}
 use Rattle.expression.specs.declared.stops.Defect.{Defect}
 use Rattle.expression.specs.Walk.{most_items, pushed, with_memory, stepped, walked}
 use Rattle.expression.specs.Widths.{width_arith}
-use Rattle.tree.specs.Trees.{Tree, constant_leaf, variable_leaf, read_at, unary_of, binary_of, joined, postfix, needs, HasWidth, Expresses}
+use Rattle.tree.specs.Trees.{Tree, constant_leaf, variable_leaf, read_at, unary_of, binary_of, joined, postfix, needs, HasWidth, Expresses, PassesExactly}
 use Rattle.tree.proofs.Rules.{constant_rule, variable_rule, read_rule, unary_rule, binary_rule, concatenation_rule}
-use Rattle.expression.proofs.Follow.{not_ok}
-use Rattle.tree.proofs.Goes.{Goes, done, next, goes_on, from_walked, to_walked}
+use Rattle.expression.proofs.Goes.{not_ok, Goes, done, next, goes_on, from_walked, to_walked}
 
 -- a width that a rule gives is put on the stack, where there is room
 pushes : {r : Result ℕ Defect} {w : ℕ} (layer : Layer) (s : List ℕ) → r ≡ Ok w → length s < most_items → pushed layer r s ≡ Ok (w ∷ s)
@@ -49,7 +48,7 @@ module _ (reads : Bool) (ws : List ℕ) where
       (goes_on (walks u h.1 (h.0 ∷ s) h.3 (omega arith))
       (next (pushes Arithmetic s ((concatenation_rule reads ws h.0 h.1 w).1 (h.4, h.5)) (omega arith)) done))
 
-  pub every_expression : (nodes : List Node) (s : Span) (w : ℕ) → Expresses reads ws nodes s w → walked (width_arith reads ws) nodes s ≡ Ok w
+  every_expression : (nodes : List Node) (s : Span) (w : ℕ) → Expresses reads ws nodes s w → walked (width_arith reads ws) nodes s ≡ Ok w
   every_expression nodes s w x =
       to_walked nodes s w (grind (arith, nat_tests)) (rw x.nodes_are at (walks x.tree w [] x.rules (omega arith)))
 
@@ -101,8 +100,11 @@ module _ (reads : Bool) (ws : List ℕ) where
   the_tree : {ns : List Node} {w : ℕ} → Built reads ws ns (w ∷ []) → (t : Tree) × (postfix t ≡ ns) × HasWidth reads ws t w × (needs t ≤ most_items)
   the_tree (more none t h room) = (t, refl, h, omega arith)
 
-  pub only_expressions : (nodes : List Node) (s : Span) (w : ℕ) → walked (width_arith reads ws) nodes s ≡ Ok w → Expresses reads ws nodes s w
+  only_expressions : (nodes : List Node) (s : Span) (w : ℕ) → walked (width_arith reads ws) nodes s ≡ Ok w → Expresses reads ws nodes s w
   only_expressions nodes s w e =
       let p = from_walked nodes s w e in
       let x = the_tree (built none p.1) in
       record { some = grind (arith, nat_tests); inside = grind (arith, nat_tests); few = grind (arith, nat_tests); tree = x.0; nodes_are = x.1; rules = x.2; room = x.3 }
+
+pub passes_exactly : PassesExactly
+passes_exactly = record { only_expressions = only_expressions; every_expression = every_expression }

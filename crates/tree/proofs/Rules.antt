@@ -8,8 +8,8 @@ use Rattle.expression.specs.declared.nodes.FixedRegion.{FixedRegion}
 use Rattle.expression.specs.declared.nodes.FixedRegion.TheVariants.{Cst, Stack}
 use Rattle.expression.specs.declared.nodes.Literal.{Literal}
 use Rattle.expression.specs.declared.nodes.Access.{Access}
-use Rattle.expression.specs.declared.nodes.UnaryOp.{UnaryOp}
-use Rattle.expression.specs.declared.nodes.UnaryOp.TheVariants.{Not, Extend, Restrict}
+use Rattle.operator.specs.declared.ops.UnaryOp.{UnaryOp}
+use Rattle.operator.specs.declared.ops.UnaryOp.TheVariants.{Not, Extend, Restrict}
 use Rattle.expression.specs.declared.stops.Defect.{Defect}
 use Rattle.expression.specs.Widths.{most_bytes, region_fits, literal_fits, by_rule, declared_width, width_unary, width_arith}
 use Rattle.tree.specs.Trees.{Fits, RegionFits, UnaryWidth}
@@ -40,5 +40,5 @@ module _ (reads : Bool) (ws : List ℕ) where
 
 pub unary_rule : (o : UnaryOp) (x w : ℕ) → Gives (width_unary o x) w (UnaryWidth o x w)
 unary_rule Not x w = grind (arith, nat_tests)
-unary_rule (Extend how k) x w = grind (arith, nat_tests)
+unary_rule (Extend reading k) x w = grind (arith, nat_tests)
 unary_rule (Restrict i j) x w = grind (arith, nat_tests)

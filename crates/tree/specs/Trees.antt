@@ -7,8 +7,8 @@ use Rattle.expression.specs.declared.nodes.FixedRegion.{FixedRegion}
 use Rattle.expression.specs.declared.nodes.FixedRegion.TheVariants.{Cst, Stack}
 use Rattle.expression.specs.declared.nodes.Literal.{Literal}
 use Rattle.expression.specs.declared.nodes.Access.{Access}
-use Rattle.expression.specs.declared.nodes.UnaryOp.{UnaryOp}
-use Rattle.expression.specs.declared.nodes.UnaryOp.TheVariants.{Not, Extend, Restrict}
+use Rattle.operator.specs.declared.ops.UnaryOp.{UnaryOp}
+use Rattle.operator.specs.declared.ops.UnaryOp.TheVariants.{Not, Extend, Restrict}
 use Rattle.expression.specs.declared.nodes.Node.{Node}
 use Rattle.expression.specs.declared.nodes.Node.TheVariants.{Constant, Variable, Read, Unary, Binary, Concatenate}
 use Rattle.expression.specs.declared.nodes.Span.{Span}
@@ -57,7 +57,7 @@ pub record Fits (c : Literal) : Type 0 where
 -- an extension grows the width, and no width passes 64; a restriction {i,j} has 0 ≤ i ≤ j < width
 abbrev pub UnaryWidth : UnaryOp → ℕ → ℕ → Type 0
 UnaryWidth Not x w = w ≡ x
-UnaryWidth (Extend how k) x w = (x < k) × (k ≤ widest) × (w ≡ k)
+UnaryWidth (Extend reading k) x w = (x < k) × (k ≤ widest) × (w ≡ k)
 UnaryWidth (Restrict i j) x w = (i ≤ j) × (j < x) × (w ≡ j - i + 1)
 
 -- Every node of the tree meets its rule, and the tree has the width w: of declared widths ws, where variables count from

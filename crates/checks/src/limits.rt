@@ -2,15 +2,13 @@ use crate::samples::*;
 use expression::nodes::*;
 use instruction::tables::*;
 use operator::ops::BinaryOp;
+use std::array;
 use std::mem::size_of;
 use std::test::Fail;
 
 #[test]
 fn instructions(rt: HostRuntime) {
-    let mut instructions = [stop(at(0, 0)); 129];
-    for (i, instruction) in instructions.iter_mut().enumerate() {
-        instruction.address = at(i as u32, 0);
-    }
+    let instructions: [Instruction; 129] = array::from_fn(|i| stop(at(i as u32, 0)));
     assert_eq!(rt; answered(tables(&[], &[], &instructions[0..128])), Ok(0));
     assert_eq!(rt; answered(tables(&[], &[], &instructions)), Err((1, 0, 0)));
     assert_eq!(rt; answered(tables(&[], &[], &[])), Err((1, 0, 0)));
@@ -64,9 +62,7 @@ fn widths(rt: HostRuntime) {
 #[test]
 fn held(rt: HostRuntime) {
     let mut nodes = [Node::Binary(BinaryOp::Add); 65];
-    for node in nodes[0..32].iter_mut() {
-        *node = number(1, 8);
-    }
+    nodes[0..32].fill(number(1, 8));
     assert_eq!(rt; expression(8, &nodes[0..63]), Ok(32));
     nodes[32] = number(1, 8);
     assert_eq!(rt; expression(8, &nodes), Err((5, 1, 33)));
@@ -144,22 +140,14 @@ fn malloc(rt: HostRuntime) {
 // The last number of a block, and the last place.
 #[test]
 fn last_addresses(rt: HostRuntime) {
-    let goto = Instruction {
-        address: at(0, 0),
-        action: Action::Goto { next: at(0, 255) },
-    };
+    let last_number = at(0, 255);
+    let last_place = at(u32::MAX, 0);
     assert_eq!(rt;
-        answered(tables(&[], &[], &[goto, stop(at(0, 255))])),
+        answered(tables(&[], &[], &[goto(last_number), stop(last_number)])),
         Ok(0)
     );
-    let far = Instruction {
-        address: at(0, 0),
-        action: Action::Goto {
-            next: at(u32::MAX, 0),
-        },
-    };
     assert_eq!(rt;
-        answered(tables(&[], &[], &[far, stop(at(u32::MAX, 0))])),
+        answered(tables(&[], &[], &[goto(last_place), stop(last_place)])),
         Ok(0)
     );
 }

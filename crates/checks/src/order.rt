@@ -17,10 +17,7 @@ fn tables_first(rt: HostRuntime) {
 // The order of an instruction's address is tried before its expressions.
 #[test]
 fn order_before_expressions(rt: HostRuntime) {
-    let second = Instruction {
-        address: at(0, 0),
-        action: Action::Jump { target: span(0, 0) },
-    };
+    let second = first(Action::Jump { target: span(0, 0) });
     assert_eq!(rt;
         answered(tables(&[], &[], &[stop(at(0, 0)), second])),
         Err((3, 2, 0))
@@ -56,14 +53,8 @@ fn sides(rt: HostRuntime) {
 // A broken target of one instruction comes before the broken order of the next.
 #[test]
 fn table_order(rt: HostRuntime) {
-    let goto = Instruction {
-        address: at(0, 0),
-        action: Action::Goto { next: at(9, 0) },
-    };
-    assert_eq!(rt;
-        answered(tables(&[], &[], &[goto, stop(at(0, 0))])),
-        Err((7, 1, 0))
-    );
+    let broken = [goto(at(9, 0)), stop(at(0, 0))];
+    assert_eq!(rt; answered(tables(&[], &[], &broken)), Err((7, 1, 0)));
 }
 
 // At one node: what is not there, then the items, then the rule.

@@ -67,8 +67,8 @@ fn items(rt: HostRuntime) {
 #[test]
 fn rules_of_nodes(rt: HostRuntime) {
     let add = Node::Binary(BinaryOp::Add);
-    let widen = Node::Unary(UnaryOp::Extend(Extension::Zeros, 8));
-    let too_wide = Node::Unary(UnaryOp::Extend(Extension::Sign, 65));
+    let widen = Node::Unary(UnaryOp::Extend(Reading::Unsigned, 8));
+    let too_wide = Node::Unary(UnaryOp::Extend(Reading::Signed, 65));
     let past = Node::Unary(UnaryOp::Restrict(0, 8));
     let backward = Node::Unary(UnaryOp::Restrict(2, 1));
     assert_eq!(rt;
@@ -168,11 +168,7 @@ fn rules_of_conditions(rt: HostRuntime) {
 fn targets(rt: HostRuntime) {
     let absent = before_stop(Action::Goto { next: at(0, 2) });
     assert_eq!(rt; answered(tables(&[], &[], &absent)), Err((7, 1, 0)));
-    let goto = Instruction {
-        address: at(0, 0),
-        action: Action::Goto { next: at(1, 1) },
-    };
-    let middle = [goto, stop(at(1, 0)), stop(at(1, 1))];
+    let middle = [goto(at(1, 1)), stop(at(1, 0)), stop(at(1, 1))];
     assert_eq!(rt; answered(tables(&[], &[], &middle)), Err((7, 1, 0)));
     let nodes = [number(1, 1)];
     let ite = before_stop(Action::Ite {

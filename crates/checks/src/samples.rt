@@ -8,14 +8,15 @@ pub(crate) type Answered = Result<usize, (u8, u16, u16)>;
 
 pub(crate) fn answered<'a>(tables: Tables<'a>) -> Answered {
     let mut place = Model::new();
-    match check(&mut place, tables) {
-        Ok(depth) => Ok(depth.items),
-        Err(refusal) => Err((
-            refusal.reason.number(),
-            refusal.place.number(),
-            refusal.node,
-        )),
-    }
+    check(&mut place, tables)
+        .map(|depth| depth.items)
+        .map_err(|refusal| {
+            (
+                refusal.reason.number(),
+                refusal.place_number(),
+                refusal.node_number(),
+            )
+        })
 }
 
 pub(crate) fn at(place: u32, number: u8) -> Address {
@@ -24,6 +25,11 @@ pub(crate) fn at(place: u32, number: u8) -> Address {
 
 pub(crate) fn span(first: u16, count: u16) -> Span {
     Span { first, count }
+}
+
+// All the nodes.
+pub(crate) fn whole(nodes: &[Node]) -> Span {
+    span(0, u16::try_from(nodes.len()).unwrap_or(0))
 }
 
 pub(crate) fn number(number: u64, width: u8) -> Node {
@@ -48,15 +54,21 @@ pub(crate) fn stop(address: Address) -> Instruction {
     }
 }
 
+// An action at place 0.
+pub(crate) fn first(action: Action) -> Instruction {
+    Instruction {
+        address: at(0, 0),
+        action,
+    }
+}
+
+pub(crate) fn goto(next: Address) -> Instruction {
+    first(Action::Goto { next })
+}
+
 // One action at place 0, and a stop after it.
 pub(crate) fn before_stop(action: Action) -> [Instruction; 2] {
-    [
-        Instruction {
-            address: at(0, 0),
-            action,
-        },
-        stop(at(0, 1)),
-    ]
+    [first(action), stop(at(0, 1))]
 }
 
 // Assigns the expression to variable 1.
@@ -84,8 +96,7 @@ pub(crate) fn tables<'a>(
 
 // What the check answers for all the nodes as one expression, assigned to a variable of the width.
 pub(crate) fn expression(width: u8, nodes: &[Node]) -> Answered {
-    let count = u16::try_from(nodes.len()).unwrap_or(0);
-    answered(tables(&[width], nodes, &assign(span(0, count))))
+    answered(tables(&[width], nodes, &assign(whole(nodes))))
 }
 
 // What the check answers for one action.

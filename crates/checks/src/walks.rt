@@ -8,33 +8,27 @@ use std::test::Fail;
 
 // What the walk in bare widths says, for all the nodes and one variable of 32 bits.
 fn walked(reads: bool, nodes: &[Node]) -> Result<u8, Stopped<Defect>> {
-    let count = u16::try_from(nodes.len()).unwrap_or(0);
     let widths = Widths {
         declared: &[32],
         reads,
     };
     let mut stack = [0; HELD];
-    walk(&widths, nodes, span(0, count), &mut stack)
+    walk(&widths, nodes, whole(nodes), &mut stack)
 }
 
 // Where memory may not be read, a read is unresolved before its operand is asked for.
 #[test]
 fn no_memory(rt: HostRuntime) -> Result<(), Fail> {
-    let Err(stopped) = walked(false, &[Node::Read(low_first(1))]) else {
-        return Err(Fail::new("a read passed"));
-    };
-    assert_eq!(rt; stopped.node, 1);
-    match stopped.cause {
-        Cause::Fault(Layer::Memory, Defect::Unresolved) => Ok(()),
-        _ => Err(Fail::new("another cause")),
-    }
+    let read = [Node::Read(low_first(1))];
+    let stopped = walked(false, &read).err().ok_or("a read passed")?;
+    assert_eq!(rt; stopped.node, Some(1));
+    let cause = stopped.cause;
+    assert!(rt; matches!(cause, Cause::Fault(Layer::Memory, Defect::Unresolved)));
+    Ok(())
 }
 
 #[test]
-fn with_memory(rt: HostRuntime) -> Result<(), Fail> {
-    let Ok(width) = walked(true, &[Node::Variable(1), Node::Read(low_first(2))]) else {
-        return Err(Fail::new("no width"));
-    };
-    assert_eq!(rt; width, 16);
-    Ok(())
+fn with_memory(rt: HostRuntime) {
+    let read = [Node::Variable(1), Node::Read(low_first(2))];
+    assert_eq!(rt; walked(true, &read).ok(), Some(16));
 }

@@ -1,3 +1,2 @@
 pub mod Bisection
-pub mod Known
 pub mod Risings

@@ -9,7 +9,7 @@ use Rattle.instruction.specs.Addresses.{before, above, rising_from}
 before_trans : (a b c : Address) → before a b ≡ true → before b c ≡ true → before a c ≡ true
 before_trans a b c h k = grind (arith, nat_tests)
 
-pub rising_rest : (p : Option Address) (x : Instruction) (xs : List Instruction) → rising_from p (x ∷ xs) ≡ true → rising_from (Some x.address) xs ≡ true
+rising_rest : (p : Option Address) (x : Instruction) (xs : List Instruction) → rising_from p (x ∷ xs) ≡ true → rising_from (Some x.address) xs ≡ true
 rising_rest p x xs h = (and_parts (above p x.address) (rising_from (Some x.address) xs) h).1
 
 -- an address is before all that rise from it

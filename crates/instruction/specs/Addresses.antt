@@ -1,5 +1,6 @@
 -- The order of addresses, and where an instruction stands.
-use Rattle.std.specs.Prelude.{ℕ, ◌+◌, Bool, true, false, cond, ◌&&◌, ◌||◌, List, [], ◌∷◌, Some, None, Option, ◌==◌, nat_lt}
+use Rattle.std.specs.Prelude.{ℕ, Bool, true, ◌&&◌, ◌||◌, List, [], ◌∷◌, Some, None, Option, ◌==◌, nat_lt, find, position}
+use Rattle.std.specs.List.{list_any}
 use Rattle.answer.specs.declared.standings.Address.{Address}
 use Rattle.instruction.specs.declared.tables.Instruction.{Instruction}
 
@@ -25,18 +26,12 @@ rising xs = rising_from None xs
 
 -- some instruction stands at the address
 abbrev pub known : List Instruction → Address → Bool
-known [] a = false
-known (x ∷ xs) a = same_address x.address a || known xs a
+known xs a = list_any (λ x. same_address x.address a) xs
 
--- the index of the first instruction at the address, where xs begins at the index i
-abbrev pub found_from : ℕ → List Instruction → Address → Option ℕ
-found_from i [] a = None
-found_from i (x ∷ xs) a = cond (same_address x.address a) (Some i) (found_from (i + 1) xs a)
-
+-- the index of the first instruction at the address
 abbrev pub found : List Instruction → Address → Option ℕ
-found xs a = found_from 0 xs a
+found xs a = position (λ x. same_address x.address a) xs
 
--- the instruction at the address
+-- the first instruction at the address
 abbrev pub standing_at : List Instruction → Address → Option Instruction
-standing_at [] a = None
-standing_at (x ∷ xs) a = cond (same_address x.address a) (Some x) (standing_at xs a)
+standing_at xs a = find (λ x. same_address x.address a) xs

@@ -13,9 +13,9 @@ pub fn right(action: Action) -> Option<Span>
         Action::Assign { right, .. } => Some(right),
         Action::Free { pointer, .. } => Some(pointer),
         Action::Jump { target } => Some(target),
-        Action::Ite { condition, .. } => Some(condition),
-        Action::Assert { condition, .. } => Some(condition),
-        Action::Assume { condition, .. } => Some(condition),
+        Action::Ite { condition, .. }
+        | Action::Assert { condition, .. }
+        | Action::Assume { condition, .. } => Some(condition),
         _ => None,
     }
 }
@@ -25,10 +25,10 @@ pub fn left(action: Action) -> Option<Left>
     ensures { result ≡ left_of action }
 {
     match action {
-        Action::Assign { left, .. } => Some(left),
-        Action::Nondet { left, .. } => Some(left),
-        Action::Undef { left, .. } => Some(left),
-        Action::Malloc { left, .. } => Some(left),
+        Action::Assign { left, .. }
+        | Action::Nondet { left, .. }
+        | Action::Undef { left, .. }
+        | Action::Malloc { left, .. } => Some(left),
         _ => None,
     }
 }
@@ -48,15 +48,15 @@ pub fn next(action: Action) -> Option<Address>
     ensures { result ≡ next_of action }
 {
     match action {
-        Action::Assign { next, .. } => Some(next),
-        Action::Nondet { next, .. } => Some(next),
-        Action::Undef { next, .. } => Some(next),
-        Action::Malloc { next, .. } => Some(next),
-        Action::Free { next, .. } => Some(next),
-        Action::Goto { next } => Some(next),
-        Action::Ite { then, .. } => Some(then),
-        Action::Assert { next, .. } => Some(next),
-        Action::Assume { next, .. } => Some(next),
+        Action::Assign { next, .. }
+        | Action::Nondet { next, .. }
+        | Action::Undef { next, .. }
+        | Action::Malloc { next, .. }
+        | Action::Free { next, .. }
+        | Action::Goto { next }
+        | Action::Ite { then: next, .. }
+        | Action::Assert { next, .. }
+        | Action::Assume { next, .. } => Some(next),
         Action::Jump { .. } | Action::Stop => None,
     }
 }

@@ -1,6 +1,8 @@
 -- The check passes exactly the well-formed tables.
-use Rattle.std.proofs.Common.{◌≡◌, ℕ, suc, ◌+◌, ◌<◌, ◌≤◌, true, not, ◌&&◌, List, [], ◌∷◌, length, get_or, Some, None, Ok, Err, Decides, Option, Result, refl, ap, ◌∙◌, add-one, arith}
-use Rattle.std.specs.List.{AllByRecursion}
+use Rattle.std.proofs.Common.{◌≡◌, ℕ, suc, ◌+◌, ◌<◌, ◌≤◌, true, not, ◌&&◌, List, [], ◌∷◌, length, get_or, Some, None, Ok, Err, Decides, Option, Result, is_ok, refl, ap, ◌∙◌, add-one, arith}
+use Rattle.std.specs.List.{All, AllByRecursion, position_or_len}
+use Rattle.std.proofs.lemmas.List.Elements.{All-from_recursion, recursion_from_All}
+use Rattle.std.proofs.lemmas.List.Sums.{position_or_len_is, fails_before_first}
 use Rattle.std.proofs.lemmas.Bool.{and_parts, and_from}
 use Rattle.std.proofs.lemmas.Bool.Decides.{nat_tests, Decides-and, Decides-or, Decides-eqb, Decides-ltb, Decides-like, Decides-at, Decides-by_or}
 use Rattle.answer.specs.declared.standings.Address.{Address}
@@ -15,7 +17,7 @@ use Rattle.instruction.specs.Parts.{right_of, left_of, next_of, otherwise_of}
 use Rattle.instruction.proofs.Risings.{rises}
 use Rattle.model.specs.declared.objections.Objection.{Objection}
 use Rattle.model.specs.Objections.{at_instruction}
-use Rattle.model.specs.Judge.{most_instructions, most_variables, right_width, left_side, own_rules, reached, judged_one, judged, widths_judged, sizes_bad, entered, is_ok, passes}
+use Rattle.model.specs.Judge.{most_instructions, most_variables, right_width, left_width, own_rules, reached, judged_one, judged, widths_judged, sizes_bad, entered, passes}
 use Rattle.model.specs.Well.{Before, Stands, Reaches, Typed, Aims, Exact}
 use Rattle.model.proofs.Passing.{decides_itself, passes_where, passes_unless, passes_both, passes_with}
 use Rattle.model.proofs.Typing.{typed, found}
@@ -90,12 +92,12 @@ module _ (ws : List ℕ) (ns : List Node) (is : List Instruction) where
   decides_one : (p : Option Address) (x : Instruction) → Decides (is_ok (judged_one ws ns is p x)) ((above p x.address ≡ true) × Typed ws ns x.action × Aims is x.address x.action)
   decides_one p x =
       Decides-like _
-      (λ (up, (w, r, (s, l, (own, aim)))). (up, typed ws ns x.action (w, r, s, l, own), aim))
-      (λ (up, t, aim). let (w, r, s, l, own) = found ws ns x.action t in (up, (w, r, (s, l, (own, aim)))))
+      (λ (up, (right, p, (left, q, (own, aim)))). (up, typed ws ns x.action (right, p, left, q, own), aim))
+      (λ (up, t, aim). let (right, p, left, q, own) = found ws ns x.action t in (up, (right, p, (left, q, (own, aim)))))
       (passes_both _ _ (passes_where (above p x.address) tt _ (decides_itself _))
-      (passes_with (right_width ws ns (right_of x.action)) _ _ (λ w.
-      passes_with (left_side ws ns (left_of x.action)) _ _ (λ s.
-      passes_both _ _ (passes_where (own_rules x.action w s) tt _ (decides_itself _))
+      (passes_with (right_width ws ns (right_of x.action)) _ _ (λ right.
+      passes_with (left_width ws ns (left_of x.action)) _ _ (λ left.
+      passes_both _ _ (passes_where (own_rules x.action right left) tt _ (decides_itself _))
       (passes_where _ tt _ (decides_aims is x.address x.action))))))
 
   decides_judged : (i : ℕ) (p : Option Address) (xs : List Instruction) → Decides (is_ok (judged ws ns is i p xs)) ((rising_from p xs ≡ true) × AllByRecursion (λ x. Typed ws ns x.action) xs × AllByRecursion (λ x. Aims is x.address x.action) xs)
@@ -108,12 +110,16 @@ module _ (ws : List ℕ) (ns : List Node) (is : List Instruction) where
       (Decides-at _ _ (ok_at (i + 1) (judged_one ws ns is p x)) (decides_one p x))
       (decides_judged (i + 1) (Some x.address) xs))
 
-decides_widths : (i : ℕ) (ws : List ℕ) → Decides (is_ok (widths_judged i ws)) (AllByRecursion (λ w. (1 ≤ w) × (w ≤ widest)) ws)
-decides_widths i [] = (λ _. tt, λ _. refl)
-decides_widths i (w ∷ ws) =
-    passes_unless (no_width w) (widths_judged (i + 1) ws) _
-    ((λ h. (grind (arith, nat_tests), grind (arith, nat_tests))), (λ h. grind (arith, nat_tests)))
-    (decides_widths (i + 1) ws)
+decides_widths : (ws : List ℕ) → Decides (is_ok (widths_judged ws)) (All (λ w. (1 ≤ w) × (w ≤ widest)) ws)
+decides_widths ws = (
+  (λ h k d lt.
+      let all : length ws ≤ position_or_len no_width ws = grind (arith, nat_tests) in
+      let fits = fails_before_first no_width ws k d (omega arith) in
+      (grind (arith, nat_tests), grind (arith, nat_tests))),
+  (λ h.
+      let all : position_or_len no_width ws ≡ length ws = position_or_len_is no_width ws (length ws) 0 (omega arith) (λ k below. grind (arith, nat_tests, h k 0 below)) (λ lt. absurd (omega arith)) in
+      grind (arith, nat_tests)),
+)
 
 decides_sizes : (v n i : ℕ) → Decides (not (sizes_bad v n i)) ((1 ≤ i) × (i ≤ most_instructions) × (n ≤ most_nodes) × (v ≤ most_variables))
 decides_sizes v n i =
@@ -130,12 +136,12 @@ exact ws ns is e =
       few_variables = few_variables;
       widths = widths;
       rises = (decides_rising is).0 up;
-      typed = typed;
-      aims = aims;
+      typed = All-from_recursion _ is typed;
+      aims = All-from_recursion _ is aims;
       entry = entry;
     })
-    (λ h. ((h.some, h.few_instructions, h.few_nodes, h.few_variables), (h.widths, (((decides_rising is).1 h.rises, h.typed, h.aims), h.entry))))
+    (λ h. ((h.some, h.few_instructions, h.few_nodes, h.few_variables), (h.widths, (((decides_rising is).1 h.rises, recursion_from_All _ is h.typed, recursion_from_All _ is h.aims), h.entry))))
     (passes_unless (sizes_bad (length ws) (length ns) (length is)) _ _ (decides_sizes (length ws) (length ns) (length is))
-    (passes_both (widths_judged 0 ws) _ (decides_widths 0 ws)
+    (passes_both (widths_judged ws) _ (decides_widths ws)
     (passes_both (judged ws ns is 0 None is) _ (decides_judged ws ns is 0 None is)
     (passes_where (entered is e) _ _ (decides_entered is e)))))

@@ -1,4 +1,3 @@
-pub mod Turns
 pub mod Passing
 pub mod Typing
 pub mod Exactly

@@ -1,10 +1,7 @@
 -- When a chain of results is Ok.
-use Rattle.std.proofs.Common.{◌≡◌, Bool, true, false, cond, not, ◌&&◌, Ok, Err, Decides, Result, refl, subst}
-use Rattle.std.proofs.lemmas.Bool.{false≢true}
+use Rattle.std.proofs.Common.{◌≡◌, Bool, true, false, cond, not, ◌&&◌, Ok, Err, Decides, Result, is_ok, refl, subst}
 use Rattle.std.proofs.lemmas.Bool.Decides.{Decides-at, Decides-and}
-use Rattle.expression.proofs.Follow.{not_ok}
 use Rattle.answer.specs.First.{and_then}
-use Rattle.model.specs.Judge.{is_ok}
 
 pub decides_itself : (b : Bool) → Decides b (b ≡ true)
 decides_itself b = (λ h. h, λ h. h)
@@ -20,10 +17,10 @@ module _ {X E : Type 0} where
 
   pub held_where : (b : Bool) (x y : X) (e : E) → cond b (Ok x) (Err e) ≡ Ok y → (b ≡ true) × (x ≡ y)
   held_where true x y e p = (refl, cc)
-  held_where false x y e p = not_ok p
+  held_where false x y e p = cc
 
   pub went_past : (b : Bool) (r : Result X E) (y : X) (e : E) → cond b (Err e) r ≡ Ok y → r ≡ Ok y
-  went_past true r y e p = not_ok p
+  went_past true r y e p = cc
   went_past false r y e p = p
 
   -- Ok where a test holds
@@ -46,8 +43,8 @@ module _ {X Y E : Type 0} where
   -- one, and then with what it found
   pub passes_with : (r : Result X E) (f : X → Result Y E) (P : X → Type 0) → ((x : X) → Decides (is_ok (f x)) (P x)) → Decides (is_ok (and_then r f)) ((x : X) × (r ≡ Ok x) × P x)
   passes_with (Ok x) f P each = (λ h. (x, refl, (each x).0 h), λ h. let e : h.0 ≡ x = cc in (each x).1 (subst P e h.2))
-  passes_with (Err e) f P each = (λ h. absurd (false≢true h), λ h. not_ok h.1)
+  passes_with (Err e) f P each = (λ h. cc, λ (x, h, p). cc)
 
   pub went_on : (r : Result X E) (f : X → Result Y E) (y : Y) → and_then r f ≡ Ok y → (x : X) × (r ≡ Ok x) × (f x ≡ Ok y)
   went_on (Ok x) f y p = (x, refl, p)
-  went_on (Err e) f y p = not_ok p
+  went_on (Err e) f y p = cc

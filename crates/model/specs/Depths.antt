@@ -1,6 +1,6 @@
 -- The depth that a pass reports.
 use Rattle.std.specs.Prelude.{◌≡◌, ℕ, ◌≤◌, List, Some, Ok}
-use Rattle.std.specs.List.{AllByRecursion}
+use Rattle.std.specs.List.{All}
 use Rattle.answer.specs.declared.standings.Address.{Address}
 use Rattle.expression.specs.declared.nodes.Node.{Node}
 use Rattle.expression.specs.declared.nodes.Span.{Span}
@@ -20,7 +20,7 @@ pub record Holds (ns : List Node) (d : ℕ) (a : Action) : Type 0 where
 -- at most 32 items, and no walk of the model holds more
 pub record Enough (ns : List Node) (is : List Instruction) (d : ℕ) : Type 0 where
   pub few : d ≤ most_items
-  pub all : AllByRecursion (λ x. Holds ns d x.action) is
+  pub all : All (λ x. Holds ns d x.action) is
 
 abbrev pub DeepEnough : Type 0
 DeepEnough = (ws : List ℕ) (ns : List Node) (is : List Instruction) (e : Address) (d : Depth) → verdict ws ns is e ≡ Ok d → Enough ns is d.items

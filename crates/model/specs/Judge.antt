@@ -1,6 +1,7 @@
 -- The check: the first broken rule, by number and place.
-use Rattle.std.specs.Prelude.{ℕ, ◌+◌, ◌*◌, max, Bool, true, false, ◌&&◌, ◌||◌, List, [], ◌∷◌, length, Some, None, Ok, Err, Option, Result, ◌==◌, nat_le, nat_lt}
-use Rattle.answer.specs.First.{◌gives◌else◌, and_then}
+use Rattle.std.specs.Prelude.{ℕ, ◌+◌, ◌*◌, max, Bool, true, ◌&&◌, ◌||◌, List, [], ◌∷◌, length, Some, None, Ok, Err, Option, Result, ◌==◌, nat_eq, nat_le, nat_lt, is_ok, position, fold}
+use Rattle.std.specs.Option.{option_eq}
+use Rattle.answer.specs.First.{◌gives◌else◌, and_then, required}
 use Rattle.answer.specs.declared.refusals.Reason.TheVariants.{TableSize, DeclaredWidth, AddressOrder, Unresolved, RuleBroken, BadTarget}
 use Rattle.answer.specs.declared.refusals.Place.TheVariants as places
 use Rattle.answer.specs.declared.refusals.Refusal.{Refusal}
@@ -22,9 +23,8 @@ use Rattle.instruction.specs.declared.tables.Instruction.{Instruction}
 use Rattle.instruction.specs.Addresses.{above, known}
 use Rattle.instruction.specs.Parts.{right_of, left_of, address_in, next_of, otherwise_of}
 use Rattle.model.specs.declared.objections.Objection.{Objection}
-use Rattle.model.specs.declared.judging.Side.{Side}
 use Rattle.model.specs.declared.judging.Depth.{Depth}
-use Rattle.model.specs.Objections.{objection, objection_of, refusal, required, at_instruction}
+use Rattle.model.specs.Objections.{objection_of, refusal, at_no_node, at_instruction}
 
 -- the most of each table, and the most bytes of a malloc region
 abbrev pub most_instructions : ℕ
@@ -44,37 +44,39 @@ objected (Err s) = Err (objection_of s)
 abbrev pub expressed : List ℕ → List Node → Span → Result ℕ Objection
 expressed ws ns s = objected (walked (width_arith true ws) ns s)
 
--- the expression on the right, where there is one
-abbrev pub right_width : List ℕ → List Node → Option Span → Result ℕ Objection
-right_width ws ns None = Ok 0
-right_width ws ns (Some s) = expressed ws ns s
+-- the width of the expression on the right, where there is one
+abbrev pub right_width : List ℕ → List Node → Option Span → Result (Option ℕ) Objection
+right_width ws ns None = Ok None
+right_width ws ns (Some s) = and_then (expressed ws ns s) (λ w. Ok (Some w))
 
--- the left side: its width, and whether it meets its own rules
-abbrev pub side : ℕ → Bool → Side
-side w fits = record { width = w; fits = fits }
+-- the width of the left side, where there is one: a declared variable, or 1 to 8 bytes at an address
+abbrev pub left_width : List ℕ → List Node → Option Left → Result (Option ℕ) Objection
+left_width ws ns None = Ok None
+left_width ws ns (Some (Variable v)) =
+    declares ws v gives Ok (Some (declared_width ws v)) else
+    Err (at_no_node Unresolved)
+left_width ws ns (Some (Bytes k a)) =
+    and_then (expressed ws ns a) (λ w.
+    and_then (required (bytes_fit k.bytes && w == address_width) (at_no_node RuleBroken)) (λ _.
+    Ok (Some (8 * k.bytes))))
 
-abbrev pub left_side : List ℕ → List Node → Option Left → Result Side Objection
-left_side ws ns None = Ok (side 0 true)
-left_side ws ns (Some (Variable v)) =
-    declares ws v gives Ok (side (declared_width ws v) true) else
-    Err (objection Unresolved 0)
-left_side ws ns (Some (Bytes k a)) =
-    and_then (expressed ws ns a) (λ w. Ok (side (8 * k.bytes) (bytes_fit k.bytes && w == address_width)))
+abbrev pub same_width : Option ℕ → Option ℕ → Bool
+same_width = option_eq nat_eq
 
--- an action's own rules, of the width w on its right and of its left side
-abbrev pub own_rules : Action → ℕ → Side → Bool
-own_rules (Assign l r n) w s = s.fits && s.width == w
-own_rules (Nondet Cst l n) w s = s.fits
-own_rules (Nondet Stack l n) w s = s.fits && s.width == address_width
-own_rules (Undef l n) w s = s.fits
-own_rules (Malloc l z n) w s = s.fits && (s.width == address_width && (nat_le 1 z && nat_le z most_region))
-own_rules (Free p n) w s = w == address_width
-own_rules (Jump t) w s = w == address_width
-own_rules (Goto n) w s = true
-own_rules (Ite c t o) w s = w == 1
-own_rules (Assert c n) w s = w == 1
-own_rules (Assume c n) w s = w == 1
-own_rules Stop w s = true
+-- an action's own rules, of the widths on its right and on its left
+abbrev pub own_rules : Action → Option ℕ → Option ℕ → Bool
+own_rules (Assign l r n) right left = same_width left right
+own_rules (Nondet Cst l n) right left = true
+own_rules (Nondet Stack l n) right left = same_width left (Some address_width)
+own_rules (Undef l n) right left = true
+own_rules (Malloc l z n) right left = same_width left (Some address_width) && (nat_le 1 z && nat_le z most_region)
+own_rules (Free p n) right left = same_width right (Some address_width)
+own_rules (Jump t) right left = same_width right (Some address_width)
+own_rules (Goto n) right left = true
+own_rules (Ite c t o) right left = same_width right (Some 1)
+own_rules (Assert c n) right left = same_width right (Some 1)
+own_rules (Assume c n) right left = same_width right (Some 1)
+own_rules Stop right left = true
 
 -- a target stands in the table, and one in another block has the number 0
 abbrev pub reached : List Instruction → Address → Option Address → Bool
@@ -84,11 +86,11 @@ reached is from (Some t) = known is t && (t.place == from.place || t.number == 0
 -- One instruction: its order, the expression on its right, its left side, its own rules, its targets.
 abbrev pub judged_one : List ℕ → List Node → List Instruction → Option Address → Instruction → Result (Unit {0}) Objection
 judged_one ws ns is previous x =
-    and_then (required (above previous x.address) AddressOrder) (λ _.
-    and_then (right_width ws ns (right_of x.action)) (λ w.
-    and_then (left_side ws ns (left_of x.action)) (λ s.
-    and_then (required (own_rules x.action w s) RuleBroken) (λ _.
-    required (reached is x.address (next_of x.action) && reached is x.address (otherwise_of x.action)) BadTarget))))
+    and_then (required (above previous x.address) (at_no_node AddressOrder)) (λ _.
+    and_then (right_width ws ns (right_of x.action)) (λ right.
+    and_then (left_width ws ns (left_of x.action)) (λ left.
+    and_then (required (own_rules x.action right left) (at_no_node RuleBroken)) (λ _.
+    required (reached is x.address (next_of x.action) && reached is x.address (otherwise_of x.action)) (at_no_node BadTarget)))))
 
 -- the instructions xs of the table is in order, the first of which has the index i
 abbrev pub judged : List ℕ → List Node → List Instruction → ℕ → Option Address → List Instruction → Result (Unit {0}) Refusal
@@ -96,12 +98,14 @@ judged ws ns is i previous [] = Ok tt
 judged ws ns is i previous (x ∷ xs) =
     and_then (at_instruction (i + 1) (judged_one ws ns is previous x)) (λ _. judged ws ns is (i + 1) (Some x.address) xs)
 
--- the declared widths, the first of which is that of the variable i + 1
-abbrev pub widths_judged : ℕ → List ℕ → Result (Unit {0}) Refusal
-widths_judged i [] = Ok tt
-widths_judged i (w ∷ ws) =
-    no_width w gives Err (refusal DeclaredWidth (places.Variable (i + 1)) 0) else
-    widths_judged (i + 1) ws
+-- the variable at an index has a width that no value has; variables count from 1
+abbrev pub width_refused : Option ℕ → Result (Unit {0}) Refusal
+width_refused None = Ok tt
+width_refused (Some i) = Err (refusal DeclaredWidth (Some (places.Variable (i + 1))) None)
+
+-- the declared widths: the first that no value has
+abbrev pub widths_judged : List ℕ → Result (Unit {0}) Refusal
+widths_judged ws = width_refused (position no_width ws)
 
 -- no instruction, or a table over its limit
 abbrev pub sizes_bad : ℕ → ℕ → ℕ → Bool
@@ -121,8 +125,7 @@ abbrev pub action_peak : List Node → Action → ℕ
 action_peak ns a = max (expression_peak ns (right_of a)) (expression_peak ns (address_in (left_of a)))
 
 abbrev pub deepest : List Node → List Instruction → ℕ
-deepest ns [] = 0
-deepest ns (x ∷ xs) = max (action_peak ns x.action) (deepest ns xs)
+deepest ns is = fold (λ most x. max most (action_peak ns x.action)) 0 is
 
 abbrev pub depth : ℕ → Depth
 depth n = record { items = n }
@@ -130,15 +133,11 @@ depth n = record { items = n }
 -- the first broken rule of the tables, or the depth
 abbrev pub verdict : List ℕ → List Node → List Instruction → Address → Result Depth Refusal
 verdict ws ns is e =
-    sizes_bad (length ws) (length ns) (length is) gives Err (refusal TableSize places.Nowhere 0) else
-    and_then (widths_judged 0 ws) (λ _.
+    sizes_bad (length ws) (length ns) (length is) gives Err (refusal TableSize None None) else
+    and_then (widths_judged ws) (λ _.
     and_then (judged ws ns is 0 None is) (λ _.
     entered is e gives Ok (depth (deepest ns is)) else
-    Err (refusal BadTarget places.Nowhere 0)))
-
-abbrev pub is_ok : {X E : Type 0} → Result X E → Bool
-is_ok (Ok x) = true
-is_ok (Err e) = false
+    Err (refusal BadTarget None None)))
 
 -- no rule is broken
 abbrev pub passes : List ℕ → List Node → List Instruction → Address → Bool

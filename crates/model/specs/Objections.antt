@@ -1,5 +1,5 @@
 -- What is wrong with an instruction, and where.
-use Rattle.std.specs.Prelude.{ℕ, Bool, cond, Ok, Err, Result}
+use Rattle.std.specs.Prelude.{ℕ, Some, None, Ok, Err, Option, Result}
 use Rattle.answer.specs.declared.refusals.Reason.{Reason}
 use Rattle.answer.specs.declared.refusals.Reason.TheVariants.{Unresolved, ItemCount, RuleBroken}
 use Rattle.answer.specs.declared.refusals.Place.{Place}
@@ -24,20 +24,24 @@ reason_of Full = ItemCount
 reason_of NotOne = ItemCount
 reason_of (Fault layer d) = defect_reason d
 
-abbrev pub objection : Reason → ℕ → Objection
+-- what is wrong with an instruction, and at which node, where one is concerned
+abbrev pub objection : Reason → Option ℕ → Objection
 objection reason node = record { reason = reason; node = node }
 
 abbrev pub objection_of : Stopped Defect → Objection
 objection_of s = objection (reason_of s.cause) s.node
 
-abbrev pub refusal : Reason → Place → ℕ → Refusal
+abbrev pub refusal : Reason → Option Place → Option ℕ → Refusal
 refusal reason place node = record { reason = reason; place = place; node = node }
 
 -- a rule that concerns no node
-abbrev pub required : Bool → Reason → Result (Unit {0}) Objection
-required holds reason = cond holds (Ok tt) (Err (objection reason 0))
+abbrev pub at_no_node : Reason → Objection
+at_no_node reason = objection reason None
 
--- the place of an instruction, counted from 1, added to what is wrong with it
+-- an objection with the place of its instruction, counted from 1
+abbrev pub placed : ℕ → Objection → Refusal
+placed i o = refusal o.reason (Some (Instruction i)) o.node
+
 abbrev pub at_instruction : ℕ → Result (Unit {0}) Objection → Result (Unit {0}) Refusal
 at_instruction i (Ok u) = Ok u
-at_instruction i (Err o) = Err (refusal o.reason (Instruction i) o.node)
+at_instruction i (Err o) = Err (placed i o)

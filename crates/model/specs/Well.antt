@@ -1,6 +1,6 @@
 -- Well-formed tables, rule by rule: no order, no place, no walk.
 use Rattle.std.specs.Prelude.{◌≡◌, ℕ, ◌+◌, ◌*◌, ◌<◌, ◌≤◌, true, ◌⊎◌, List, length, Decides, ◌≢◌, slice_index_or}
-use Rattle.std.specs.List.{HoldsAt, AllByRecursion}
+use Rattle.std.specs.List.{HoldsAt, All}
 use Rattle.answer.specs.declared.standings.Address.{Address}
 use Rattle.value.specs.Rows.{address_width, widest}
 use Rattle.expression.specs.declared.nodes.FixedRegion.TheVariants.{Cst, Stack}
@@ -73,10 +73,10 @@ pub record Well (ws : List ℕ) (ns : List Node) (is : List Instruction) (e : Ad
   pub few_instructions : length is ≤ most_instructions
   pub few_nodes : length ns ≤ most_nodes
   pub few_variables : length ws ≤ most_variables
-  pub widths : AllByRecursion (λ w. (1 ≤ w) × (w ≤ widest)) ws
+  pub widths : All (λ w. (1 ≤ w) × (w ≤ widest)) ws
   pub rises : (i : ℕ) (d : Instruction) → i + 1 < length is → Before (slice_index_or is i d).address (slice_index_or is (i + 1) d).address
-  pub typed : AllByRecursion (λ x. Typed ws ns x.action) is
-  pub aims : AllByRecursion (λ x. Aims is x.address x.action) is
+  pub typed : All (λ x. Typed ws ns x.action) is
+  pub aims : All (λ x. Aims is x.address x.action) is
   pub entry : (e.number ≡ 0) × Stands is e
 
 -- the check passes exactly the well-formed tables

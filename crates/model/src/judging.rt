@@ -1,17 +1,17 @@
-ghost use Rattle.std.specs.Prelude.{◌≡◌, ◌≤◌, ◌&&◌, length, None};
-ghost use Rattle.model.specs.Objections.{required, at_instruction};
-ghost use Rattle.model.specs.Judge.{expressed, right_width, left_side, own_rules, reached, judged_one, judged, widths_judged, sizes_bad, entered, verdict};
+ghost use Rattle.std.specs.Prelude.{◌≡◌, ◌≤◌, length, None};
+ghost use Rattle.model.specs.Judge.{expressed, right_width, left_width, own_rules, reached, judged_one, judged, widths_judged, sizes_bad, entered, verdict};
 
 use crate::depths::deepest_of;
-use crate::objections::Objection;
+use crate::objections::{Objection, refusal};
 use answer::refusals::{Place, Reason, Refusal};
+use answer::rules::require;
 use answer::standings::Address;
 use expression::nodes::{FixedRegion, NODES, Node, Span};
 use expression::walks::{HELD, walk};
-use expression::widths::{Widths, are_bytes, is_declared};
+use expression::widths::{Widths, access_width, declared_width};
 use instruction::lookup::{is_above, is_known};
 use instruction::parts;
-use instruction::tables::{Action, Instruction, Left};
+use instruction::tables::{Action, Instruction, Left, Tables};
 use value::makes::is_no_width;
 use value::values::ADDRESS_WIDTH;
 
@@ -22,100 +22,67 @@ pub const VARIABLES: usize = 64;
 
 pub const REGION_BYTES: u32 = 65535;
 
-// The width of a left side, and whether it meets its own rules.
-#[derive(Clone, Copy)]
-pub struct Side {
-    pub width: u16,
-    pub fits: bool,
-}
-
 // The most items that a walk of the model holds.
 #[derive(Clone, Copy)]
 pub struct Depth {
     pub items: usize,
 }
 
-// A rule that concerns no node.
-fn require(holds: bool, reason: Reason) -> Result<(), Objection>
-    ensures { result ≡ required holds reason }
-{
-    if holds {
-        Ok(())
-    } else {
-        Err(Objection { reason, node: 0 })
-    }
-}
-
 // The width of an expression, or what is wrong with it.
-fn width_of(widths: &[u8], nodes: &[Node], span: Span) -> Result<u8, Objection>
-    ensures { result ≡ expressed widths.now nodes.now span }
+fn width_of(tables: &Tables<'_>, span: Span) -> Result<u8, Objection>
+    ensures { result ≡ expressed tables.now.widths.now tables.now.nodes.now span }
 {
     let arithmetic = Widths {
-        declared: widths,
+        declared: tables.widths,
         reads: true,
     };
     let mut stack = [0; HELD];
-    let width = walk(&arithmetic, nodes, span, &mut stack)?;
-    Ok(width)
+    Ok(walk(&arithmetic, tables.nodes, span, &mut stack)?)
 }
 
-// The width on the right, 0 where there is no expression.
-fn width_on_right(widths: &[u8], nodes: &[Node], right: Option<Span>) -> Result<u8, Objection>
-    ensures { result ≡ right_width widths.now nodes.now right }
+// The width on the right, where there is an expression.
+fn width_on_right(tables: &Tables<'_>, right: Option<Span>) -> Result<Option<u8>, Objection>
+    ensures { result ≡ right_width tables.now.widths.now tables.now.nodes.now right }
 {
     match right {
-        None => Ok(0),
-        Some(span) => width_of(widths, nodes, span),
+        None => Ok(None),
+        Some(span) => Ok(Some(width_of(tables, span)?)),
     }
 }
 
-fn side_of(widths: &[u8], nodes: &[Node], left: Option<Left>) -> Result<Side, Objection>
-    ensures { result ≡ left_side widths.now nodes.now left }
+// The width on the left, where a result goes.
+fn width_on_left(tables: &Tables<'_>, left: Option<Left>) -> Result<Option<u8>, Objection>
+    ensures { result ≡ left_width tables.now.widths.now tables.now.nodes.now left }
 {
     match left {
-        None => Ok(Side {
-            width: 0,
-            fits: true,
-        }),
+        None => Ok(None),
         Some(Left::Variable(variable)) => {
-            if is_declared(widths, variable) {
-                Ok(Side {
-                    width: widths[variable as usize - 1] as u16,
-                    fits: true,
-                })
-            } else {
-                Err(Objection {
-                    reason: Reason::Unresolved,
-                    node: 0,
-                })
-            }
+            let width = declared_width(tables.widths, variable).ok_or(Reason::Unresolved)?;
+            Ok(Some(width))
         }
         Some(Left::Bytes(access, address)) => {
-            let width = width_of(widths, nodes, address)?;
-            Ok(Side {
-                width: 8 * access.bytes as u16,
-                fits: are_bytes(access.bytes) && width == ADDRESS_WIDTH,
-            })
+            let address = width_of(tables, address)?;
+            let width = access_width(access, address).ok_or(Reason::RuleBroken)?;
+            Ok(Some(width))
         }
     }
 }
 
-// An action's own rules, of the width on its right and of its left side.
-fn are_kept(action: Action, right: u8, left: Side) -> bool
+// An action's own rules, of the widths on its right and on its left.
+fn are_kept(action: Action, right: Option<u8>, left: Option<u8>) -> bool
     ensures { result ≡ own_rules action right left }
 {
-    let is_pointer = left.fits && left.width == ADDRESS_WIDTH as u16;
+    let is_pointer = left == Some(ADDRESS_WIDTH);
     match action {
-        Action::Assign { .. } => left.fits && left.width == right as u16,
+        Action::Assign { .. } => left == right,
         Action::Nondet {
             region: FixedRegion::Stack,
             ..
         } => is_pointer,
-        Action::Nondet { .. } | Action::Undef { .. } => left.fits,
-        Action::Malloc { size, .. } => is_pointer && 1 <= size && size <= REGION_BYTES,
-        Action::Free { .. } | Action::Jump { .. } => right == ADDRESS_WIDTH,
-        Action::Ite { .. } | Action::Assert { .. } | Action::Assume { .. } => right == 1,
-        Action::Goto { .. } | Action::Stop => true,
+        Action::Malloc { size, .. } => is_pointer && (1..=REGION_BYTES).contains(&size),
+        Action::Free { .. } | Action::Jump { .. } => right == Some(ADDRESS_WIDTH),
+        Action::Ite { .. } | Action::Assert { .. } | Action::Assume { .. } => right == Some(1),
+        Action::Nondet { .. } | Action::Undef { .. } | Action::Goto { .. } | Action::Stop => true,
     }
 }
 
@@ -123,94 +90,66 @@ fn are_kept(action: Action, right: u8, left: Side) -> bool
 fn is_reached(instructions: &[Instruction], from: Address, target: Option<Address>) -> bool
     ensures { result ≡ reached instructions.now from target }
 {
-    match target {
-        None => true,
-        Some(to) => is_known(instructions, to) && (to.place == from.place || to.number == 0),
-    }
+    target.is_none_or(|to| {
+        is_known(instructions, to) && (to.place == from.place || to.number == 0)
+    })
 }
 
 // One instruction: its order, the expression on its right, its left side, its own rules, its targets.
 fn judge_one(
-    widths: &[u8],
-    nodes: &[Node],
-    instructions: &[Instruction],
+    tables: &Tables<'_>,
     previous: Option<Address>,
     instruction: Instruction,
 ) -> Result<(), Objection>
-    ensures { result ≡ judged_one widths.now nodes.now instructions.now previous instruction }
+    ensures { result ≡ judged_one tables.now.widths.now tables.now.nodes.now tables.now.instructions.now previous instruction }
 {
     let action = instruction.action;
     let address = instruction.address;
     require(is_above(previous, address), Reason::AddressOrder)?;
-    let right = width_on_right(widths, nodes, parts::right(action))?;
-    let left = side_of(widths, nodes, parts::left(action))?;
+    let right = width_on_right(tables, parts::right(action))?;
+    let left = width_on_left(tables, parts::left(action))?;
     require(are_kept(action, right, left), Reason::RuleBroken)?;
-    let next = is_reached(instructions, address, parts::next(action));
-    let otherwise = is_reached(instructions, address, parts::otherwise(action));
-    require(next && otherwise, Reason::BadTarget)
-}
-
-// Adds the place of an instruction, counted from 1, to what is wrong with it.
-fn placed(got: Result<(), Objection>, instruction: u16) -> Result<(), Refusal>
-    ensures { result ≡ at_instruction instruction got }
-{
-    match got {
-        Ok(()) => Ok(()),
-        Err(objection) => Err(Refusal {
-            reason: objection.reason,
-            place: Place::Instruction(instruction),
-            node: objection.node,
-        }),
-    }
+    let next = is_reached(tables.instructions, address, parts::next(action));
+    let otherwise = is_reached(tables.instructions, address, parts::otherwise(action));
+    require(next && otherwise, Reason::BadTarget)?;
+    Ok(())
 }
 
 // The instructions in table order: the first broken rule, with its place.
-fn judge_instructions(
-    widths: &[u8],
-    nodes: &[Node],
-    instructions: &[Instruction],
-) -> Result<(), Refusal>
-    requires { length instructions.now ≤ 128 }
-    ensures { result ≡ judged widths.now nodes.now instructions.now 0 None instructions.now }
+fn judge_instructions(tables: &Tables<'_>) -> Result<(), Refusal>
+    requires { length tables.now.instructions.now ≤ 128 }
+    ensures { result ≡ judged tables.now.widths.now tables.now.nodes.now tables.now.instructions.now 0 None tables.now.instructions.now }
 {
-    let mut first_broken = Ok(());
-    let mut previous: Option<Address> = None;
-    for (i, instruction) in instructions.iter().enumerate() {
-        let got = judge_one(widths, nodes, instructions, previous, *instruction);
-        first_broken = placed(got, i as u16 + 1);
-        if first_broken.is_err() {
-            break;
-        }
+    let mut previous = None;
+    for (i, instruction) in tables.instructions.iter().enumerate() {
+        judge_one(tables, previous, *instruction).map_err(|objection| objection.at(i as u16 + 1))?;
         previous = Some(instruction.address);
     }
-    first_broken
+    Ok(())
 }
 
 // The declared widths, up to the first that no value has.
 fn judge_widths(widths: &[u8]) -> Result<(), Refusal>
     requires { length widths.now ≤ 64 }
-    ensures { result ≡ widths_judged 0 widths.now }
+    ensures { result ≡ widths_judged widths.now }
 {
-    for (i, width) in widths.iter().enumerate() {
-        if is_no_width(*width) {
-            return Err(Refusal {
-                reason: Reason::DeclaredWidth,
-                place: Place::Variable(i as u16 + 1),
-                node: 0,
-            });
+    match widths.iter().position(|width| is_no_width(*width)) {
+        None => Ok(()),
+        Some(i) => {
+            let variable = Place::Variable(i as u16 + 1);
+            Err(refusal(Reason::DeclaredWidth, Some(variable)))
         }
     }
-    Ok(())
 }
 
 // Whether there is no instruction, or a table is over its limit.
-fn are_sizes_bad(variables: usize, nodes: usize, instructions: usize) -> bool
-    ensures { result ≡ sizes_bad variables nodes instructions }
+fn are_sizes_bad(tables: &Tables<'_>) -> bool
+    ensures { result ≡ sizes_bad (length tables.now.widths.now) (length tables.now.nodes.now) (length tables.now.instructions.now) }
 {
-    instructions == 0
-        || instructions > INSTRUCTIONS
-        || nodes > NODES as usize
-        || variables > VARIABLES
+    tables.instructions.is_empty()
+        || tables.instructions.len() > INSTRUCTIONS
+        || tables.nodes.len() > NODES
+        || tables.widths.len() > VARIABLES
 }
 
 fn is_entered(instructions: &[Instruction], entry: Address) -> bool
@@ -220,32 +159,15 @@ fn is_entered(instructions: &[Instruction], entry: Address) -> bool
 }
 
 // The first broken rule of the tables, or the depth.
-pub(crate) fn judge(
-    widths: &[u8],
-    nodes: &[Node],
-    instructions: &[Instruction],
-    entry: Address,
-) -> Result<Depth, Refusal>
-    ensures { result ≡ verdict widths.now nodes.now instructions.now entry }
+pub(crate) fn judge(tables: &Tables<'_>) -> Result<Depth, Refusal>
+    ensures { result ≡ verdict tables.now.widths.now tables.now.nodes.now tables.now.instructions.now tables.now.entry }
 {
-    if are_sizes_bad(widths.len(), nodes.len(), instructions.len()) {
-        return Err(Refusal {
-            reason: Reason::TableSize,
-            place: Place::Nowhere,
-            node: 0,
-        });
-    }
-    judge_widths(widths)?;
-    judge_instructions(widths, nodes, instructions)?;
-    if is_entered(instructions, entry) {
-        Ok(Depth {
-            items: deepest_of(nodes, instructions),
-        })
-    } else {
-        Err(Refusal {
-            reason: Reason::BadTarget,
-            place: Place::Nowhere,
-            node: 0,
-        })
-    }
+    require(!are_sizes_bad(tables), refusal(Reason::TableSize, None))?;
+    judge_widths(tables.widths)?;
+    judge_instructions(tables)?;
+    let is_entered = is_entered(tables.instructions, tables.entry);
+    require(is_entered, refusal(Reason::BadTarget, None))?;
+    Ok(Depth {
+        items: deepest_of(tables.nodes, tables.instructions),
+    })
 }

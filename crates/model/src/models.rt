@@ -1,12 +1,11 @@
-ghost use Rattle.std.specs.Prelude.{◌≡◌, true, [], Ok, Err, Decides};
+ghost use Rattle.std.specs.Prelude.{◌≡◌, true, [], Decides, IfOk, MatchResult, is_ok};
 ghost use Rattle.instruction.specs.Addresses.{known, found, standing_at};
-ghost use Rattle.model.specs.Judge.{verdict, passes, is_ok};
+ghost use Rattle.model.specs.Judge.{verdict, passes};
 ghost use Rattle.model.specs.Well.{Well};
 ghost use Rattle.model.specs.Depths.{Enough};
 ghost use Rattle.model.specs.Built.{built_in, first_address};
 
 use crate::judging::{Depth, judge};
-use crate::theorems;
 use answer::refusals::Refusal;
 use answer::standings::Address;
 use instruction::lookup::find;
@@ -33,7 +32,10 @@ const BUILT_IN: [Instruction; 1] = [Instruction {
 impl<'a> Model<'a> {
     // The built-in model: a single stop at place 0, number 0.
     pub fn new() -> Model<'a>
-        ensures { (result.tables.widths.now ≡ []) × (result.tables.nodes.now ≡ []) × (result.tables.instructions.now ≡ built_in) × (result.tables.entry ≡ first_address) }
+        ensures no_widths { result.tables.widths.now ≡ [] }
+        ensures no_nodes { result.tables.nodes.now ≡ [] }
+        ensures one_stop { result.tables.instructions.now ≡ built_in }
+        ensures entry { result.tables.entry ≡ first_address }
     {
         Model {
             tables: Tables {
@@ -53,6 +55,7 @@ impl<'a> Model<'a> {
     }
 
     // The index of the instruction at an address.
+    #[tactic(auto, using(crate::proofs::Lookups::rising_passed))]
     pub fn find(&self, address: Address) -> Option<usize>
         ensures { result ≡ found self.now.tables.instructions.now address }
     {
@@ -60,16 +63,15 @@ impl<'a> Model<'a> {
     }
 
     // The instruction at an address.
+    #[tactic(auto, using(std::proofs::lemmas::Grind::common_steps, std::proofs::lemmas::Option::gets, std::proofs::lemmas::List::Folds::find_at))]
     pub fn instruction_at(&self, address: Address) -> Option<Instruction>
         ensures { result ≡ standing_at self.now.tables.instructions.now address }
     {
-        match self.find(address) {
-            None => None,
-            Some(i) => Some(self.tables.instructions[i]),
-        }
+        self.find(address).map(|i| self.tables.instructions[i])
     }
 
     // Whether an instruction stands at an address.
+    #[tactic(auto, using(crate::proofs::Lookups::known_found))]
     pub fn has(&self, address: Address) -> bool
         ensures { result ≡ known self.now.tables.instructions.now address }
     {
@@ -78,20 +80,14 @@ impl<'a> Model<'a> {
 }
 
 // Checks the tables of a model. A pass fills the place with them; a refusal leaves it as it was.
+#[tactic(auto, using(crate::proofs::Exactly::exact))]
 pub fn check<'a>(place: &mut Model<'a>, tables: Tables<'a>) -> Result<Depth, Refusal>
     ensures answer { result ≡ verdict tables.entry.widths.now tables.entry.nodes.now tables.entry.instructions.now tables.entry.entry }
-    ensures filled { elim result [ Ok d ↦ place.new.tables ≡ tables.entry | Err e ↦ place.new ≡ place.old ] }
+    ensures filled { MatchResult result (λ d. place.new.tables ≡ tables.entry) (λ e. place.new ≡ place.old) }
     ensures exact { Decides (is_ok result) (Well tables.entry.widths.now tables.entry.nodes.now tables.entry.instructions.now tables.entry.entry) }
-    ensures deep { elim result [ Ok d ↦ Enough tables.entry.nodes.now tables.entry.instructions.now d.items | Err e ↦ Unit {0} ] }
+    ensures deep { IfOk result (λ d. Enough tables.entry.nodes.now tables.entry.instructions.now d.items) }
 {
-    theorems::check_is_exact();
-    theorems::depth_is_enough();
-    let depth = judge(
-        tables.widths,
-        tables.nodes,
-        tables.instructions,
-        tables.entry,
-    )?;
+    let depth = judge(&tables)?;
     *place = Model { tables };
     Ok(depth)
 }

@@ -1,9 +1,9 @@
-// What follows from the definition of the check. Each function has a theorem for its contract, and does nothing; a
-// function that calls one knows it.
+// What follows from the definition of the check. Each function has a theorem for its contract, and does nothing.
 ghost use Rattle.model.specs.Depths.{DeepEnough};
 ghost use Rattle.model.specs.Well.{Exact};
 
 // The check passes exactly the well-formed tables.
+#[tactic(auto, using(crate::proofs::Exactly::exact))]
 pub fn check_is_exact()
     ensures { Exact }
 {}

@@ -8,10 +8,30 @@ use expression::nodes::*;
 use instruction::tables::*;
 use operator::ops::*;
 
-// What the variables are called, and their widths.
-pub const NAMES: [&str; 3] = ["word", "sample", "magnitude"];
+// A variable: what it is called, and its width.
+#[derive(Clone, Copy)]
+pub struct Variable {
+    pub name: &'static str,
+    pub width: u8,
+}
 
-pub const WIDTHS: [u8; 3] = [16, 32, 32];
+pub const VARIABLES: [Variable; 3] = [
+    Variable {
+        name: "word",
+        width: 16,
+    },
+    Variable {
+        name: "sample",
+        width: 32,
+    },
+    Variable {
+        name: "magnitude",
+        width: 32,
+    },
+];
+
+// The widths alone, as the tables take them.
+pub const WIDTHS: [u8; 3] = [VARIABLES[0].width, VARIABLES[1].width, VARIABLES[2].width];
 
 const WORD: Node = Node::Variable(1);
 
@@ -19,23 +39,32 @@ const SAMPLE: Node = Node::Variable(2);
 
 const MAGNITUDE: Node = Node::Variable(3);
 
+// 0 in 32 bits and in 16; the other constants differ from one of them.
+const ZERO_OF_32: Literal = Literal {
+    number: 0,
+    region: FixedRegion::Cst,
+    width: 32,
+};
+
+const ZERO_OF_16: Literal = Literal {
+    width: 16,
+    ..ZERO_OF_32
+};
+
 // The relay's map: the pickup setting (4 bytes), the counter (2 bytes) and the trip contact (1 byte).
 const SETTING: Node = Node::Constant(Literal {
     number: 4096,
-    region: FixedRegion::Cst,
-    width: 32,
+    ..ZERO_OF_32
 });
 
 const COUNTER: Node = Node::Constant(Literal {
     number: 8192,
-    region: FixedRegion::Cst,
-    width: 32,
+    ..ZERO_OF_32
 });
 
 const CONTACT: Node = Node::Constant(Literal {
     number: 12288,
-    region: FixedRegion::Cst,
-    width: 32,
+    ..ZERO_OF_32
 });
 
 const ONE_BYTE: Access = Access {
@@ -45,42 +74,32 @@ const ONE_BYTE: Access = Access {
 
 const TWO_BYTES: Access = Access {
     bytes: 2,
-    order: ByteOrder::LowFirst,
+    ..ONE_BYTE
 };
 
 const FOUR_BYTES: Access = Access {
     bytes: 4,
-    order: ByteOrder::LowFirst,
+    ..ONE_BYTE
 };
 
-const NO_SAMPLES: Node = Node::Constant(Literal {
-    number: 0,
-    region: FixedRegion::Cst,
-    width: 16,
-});
+const NO_SAMPLES: Node = Node::Constant(ZERO_OF_16);
 
 const ONE_SAMPLE: Node = Node::Constant(Literal {
     number: 1,
-    region: FixedRegion::Cst,
-    width: 16,
+    ..ZERO_OF_16
 });
 
 const FIVE_SAMPLES: Node = Node::Constant(Literal {
     number: 5,
-    region: FixedRegion::Cst,
-    width: 16,
+    ..ZERO_OF_16
 });
 
-const ZERO: Node = Node::Constant(Literal {
-    number: 0,
-    region: FixedRegion::Cst,
-    width: 32,
-});
+const ZERO: Node = Node::Constant(ZERO_OF_32);
 
 const CLOSED: Node = Node::Constant(Literal {
     number: 1,
-    region: FixedRegion::Cst,
     width: 8,
+    ..ZERO_OF_32
 });
 
 pub const NODES: [Node; 25] = [
@@ -88,17 +107,17 @@ pub const NODES: [Node; 25] = [
     COUNTER,
     WORD,
     Node::Unary(UnaryOp::Restrict(0, 11)),
-    Node::Unary(UnaryOp::Extend(Extension::Sign, 32)),
+    Node::Unary(UnaryOp::Extend(Reading::Signed, 32)),
     SAMPLE,
     ZERO,
-    Node::Binary(BinaryOp::Compare(Comparison::Signed(Order::Less))),
+    Node::Binary(BinaryOp::Compare(Comparison::Ordered(Reading::Signed, Order::Less))),
     ZERO,
     SAMPLE,
     Node::Binary(BinaryOp::Sub),
     MAGNITUDE,
     SETTING,
     Node::Read(FOUR_BYTES),
-    Node::Binary(BinaryOp::Compare(Comparison::Unsigned(Order::GreaterOrEqual))),
+    Node::Binary(BinaryOp::Compare(Comparison::Ordered(Reading::Unsigned, Order::GreaterOrEqual))),
     COUNTER,
     Node::Read(TWO_BYTES),
     ONE_SAMPLE,
@@ -106,7 +125,7 @@ pub const NODES: [Node; 25] = [
     COUNTER,
     Node::Read(TWO_BYTES),
     FIVE_SAMPLES,
-    Node::Binary(BinaryOp::Compare(Comparison::Unsigned(Order::GreaterOrEqual))),
+    Node::Binary(BinaryOp::Compare(Comparison::Ordered(Reading::Unsigned, Order::GreaterOrEqual))),
     CONTACT,
     CLOSED,
 ];
@@ -121,7 +140,7 @@ const CONTACT_BYTE: Left = Left::Bytes(
     },
 );
 
-// The blocks of the routine by their places.
+// The blocks of the routine by their places, and the instructions within them.
 pub const ENTRY: Address = Address {
     place: 256,
     number: 0,
@@ -131,6 +150,14 @@ const DRAW: Address = Address {
     place: 512,
     number: 0,
 };
+
+const EXTEND: Address = Address { number: 1, ..DRAW };
+
+const SIGN: Address = Address { number: 2, ..DRAW };
+
+const TURN: Address = Address { number: 3, ..DRAW };
+
+const KEEP: Address = Address { number: 4, ..DRAW };
 
 const COMPARE: Address = Address {
     place: 768,
@@ -142,6 +169,8 @@ const COUNT: Address = Address {
     number: 0,
 };
 
+const ENOUGH: Address = Address { number: 1, ..COUNT };
+
 const RESET: Address = Address {
     place: 1280,
     number: 0,
@@ -151,6 +180,8 @@ const TRIP: Address = Address {
     place: 1536,
     number: 0,
 };
+
+const HALT: Address = Address { number: 1, ..TRIP };
 
 pub const INSTRUCTIONS: [Instruction; 12] = [
     Instruction {
@@ -166,48 +197,27 @@ pub const INSTRUCTIONS: [Instruction; 12] = [
         action: Action::Nondet {
             region: FixedRegion::Cst,
             left: Left::Variable(1),
-            next: Address {
-                place: 512,
-                number: 1,
-            },
+            next: EXTEND,
         },
     },
     Instruction {
-        address: Address {
-            place: 512,
-            number: 1,
-        },
+        address: EXTEND,
         action: Action::Assign {
             left: Left::Variable(2),
             right: Span { first: 2, count: 3 },
-            next: Address {
-                place: 512,
-                number: 2,
-            },
+            next: SIGN,
         },
     },
     Instruction {
-        address: Address {
-            place: 512,
-            number: 2,
-        },
+        address: SIGN,
         action: Action::Ite {
             condition: Span { first: 5, count: 3 },
-            then: Address {
-                place: 512,
-                number: 3,
-            },
-            otherwise: Address {
-                place: 512,
-                number: 4,
-            },
+            then: TURN,
+            otherwise: KEEP,
         },
     },
     Instruction {
-        address: Address {
-            place: 512,
-            number: 3,
-        },
+        address: TURN,
         action: Action::Assign {
             left: Left::Variable(3),
             right: Span { first: 8, count: 3 },
@@ -215,10 +225,7 @@ pub const INSTRUCTIONS: [Instruction; 12] = [
         },
     },
     Instruction {
-        address: Address {
-            place: 512,
-            number: 4,
-        },
+        address: KEEP,
         action: Action::Assign {
             left: Left::Variable(3),
             right: Span { first: 5, count: 1 },
@@ -244,17 +251,11 @@ pub const INSTRUCTIONS: [Instruction; 12] = [
                 first: 15,
                 count: 4,
             },
-            next: Address {
-                place: 1024,
-                number: 1,
-            },
+            next: ENOUGH,
         },
     },
     Instruction {
-        address: Address {
-            place: 1024,
-            number: 1,
-        },
+        address: ENOUGH,
         action: Action::Ite {
             condition: Span {
                 first: 19,
@@ -280,17 +281,11 @@ pub const INSTRUCTIONS: [Instruction; 12] = [
                 first: 24,
                 count: 1,
             },
-            next: Address {
-                place: 1536,
-                number: 1,
-            },
+            next: HALT,
         },
     },
     Instruction {
-        address: Address {
-            place: 1536,
-            number: 1,
-        },
+        address: HALT,
         action: Action::Stop,
     },
 ];

@@ -1,23 +1,15 @@
-use Rattle.std.proofs.Common.{◌≡◌, ◌+◌, max, get_or, drop, arith}
-use Rattle.std.proofs.lemmas.List.{at_drop_more, at_drop_all}
-use Rattle.std.proofs.lemmas.Bool.Decides.{nat_tests}
-use Rattle.model.specs.Judge.{action_peak, deepest}
-use Rattle.model.proofs.Turns.{blank}
+use Rattle.std.proofs.Common.{unwrap_or, rules, ap, ◌∙◌}
+use Rattle.std.specs.Ordering.{nat_cmp, max_by_ordering}
+use Rattle.std.proofs.lemmas.Iterator.{YieldsList-from_slice, YieldsList-from_map}
+use Rattle.std.proofs.lemmas.Iterator.Consumers.{YieldsList-at, reduce_from_yields_List}
+use Rattle.std.proofs.lemmas.List.Folds.{max_of_map}
+use Rattle.instruction.specs.declared.tables.Instruction.{Instruction}
+use Rattle.model.specs.Judge.{action_peak}
 use Rattle.model.proofs.depths.deepest_of.Goals as goal
-
-pub loop-instruction-preserved : goal.loop-instruction-preserved
-loop-instruction-preserved c =
-    let ns = c.args.nodes.now in
-    let is = c.args.instructions.now in
-    let i = c.loop-instruction.instruction-index in
-    let e : deepest ns (drop i is) ≡ max (action_peak ns (get_or is i blank).action) (deepest ns (drop (i + 1) is)) = at_drop_more (deepest ns) is i blank c.loop-instruction-test.true in
-    let p : c.action_peak.result ≡ action_peak ns (get_or is i blank).action = c.action_peak.ensures in
-    let m : c.max-most.result ≡ max c.loop-instruction.most c.action_peak.result = grind (arith, nat_tests) in
-    let h = c.loop-instruction.invariant in
-    omega arith
 
 pub returns : goal.returns
 returns c =
-    let e : deepest c.args.nodes.now (drop c.loop-instruction.instruction-index c.args.instructions.now) ≡ 0 = at_drop_all (deepest c.args.nodes.now) _ _ c.loop-instruction-test.false in
-    let h = c.loop-instruction.invariant in
-    omega arith
+    let peak = λ (x : Instruction). action_peak c.args.nodes.now x.action in
+    c.unwrap_or.ensures
+    ∙ ap (λ r. unwrap_or r 0) (reduce_from_yields_List (λ p z. max_by_ordering (nat_cmp p z) p z) _ _ c.max.ensures.ran (YieldsList-from_map _ peak (YieldsList-at c.map.ensures.source (YieldsList-from_slice c.args.instructions.now cc)) c.map.ensures.closure (λ x r q k. search rules)))
+    ∙ max_of_map peak c.args.instructions.now

@@ -1,14 +1,15 @@
-use Rattle.std.proofs.Common.{true, false, sym, ◌∙◌}
-use Rattle.std.proofs.lemmas.List.{at_drop_all}
-use Rattle.model.specs.Judge.{widths_judged}
-use Rattle.model.proofs.Turns.{width_turn}
+use Rattle.std.proofs.Common.{Err, rules, tests, ap, ◌∙◌}
+use Rattle.std.proofs.lemmas.Iterator.{YieldsList-from_slice}
+use Rattle.std.proofs.lemmas.Iterator.Search.{position_from_yields_List}
+use Rattle.value.specs.Rows.{no_width}
+use Rattle.model.specs.Judge.{width_refused}
 use Rattle.model.proofs.judging.judge_widths.Goals as goal
 
-pub returns-then-is_no_width : goal.returns-then-is_no_width
-returns-then-is_no_width c = sym (width_turn c.args.widths.now c.loop-i.i true c.loop-i-test.true c.if-is_no_width.ensures) ∙ c.loop-i.invariant
+pub returns-in-None : goal.returns-in-None
+returns-in-None c =
+    ap width_refused (position_from_yields_List no_width _ _ _ c.in-None.ensures.ran (YieldsList-from_slice c.args.widths.now cc) (λ x b q k. search (rules, tests)))
 
-pub loop-i-preserved : goal.loop-i-preserved
-loop-i-preserved c = sym (width_turn c.args.widths.now c.loop-i.i false c.loop-i-test.true c.if-is_no_width.ensures) ∙ c.loop-i.invariant
-
-pub returns : goal.returns
-returns c = sym (at_drop_all (widths_judged c.loop-i.i) c.args.widths.now c.loop-i.i c.loop-i-test.false) ∙ c.loop-i.invariant
+pub returns-in-Some : goal.returns-in-Some
+returns-in-Some c =
+    ap Err c.refusal.ensures
+    ∙ ap width_refused (position_from_yields_List no_width _ _ _ c.in-Some.ensures.ran (YieldsList-from_slice c.args.widths.now cc) (λ x b q k. search (rules, tests)))

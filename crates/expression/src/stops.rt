@@ -1,4 +1,5 @@
 ghost use Rattle.std.specs.Prelude.{◌≡◌};
+ghost use Rattle.answer.specs.Numbers.{node_number};
 ghost use Rattle.expression.specs.Walk.{stop};
 
 use answer::faults::Layer;
@@ -26,6 +27,13 @@ impl<F: Copy> Stopped<F> {
         ensures { result ≡ stop node cause }
     {
         Stopped { node, cause }
+    }
+
+    // The node as a number, 0 for none.
+    pub fn node_number(&self) -> u16
+        ensures { result ≡ node_number self.now.node }
+    {
+        self.node.unwrap_or(0)
     }
 }
 

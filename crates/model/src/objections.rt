@@ -1,4 +1,5 @@
 ghost use Rattle.std.specs.Prelude.{◌≡◌, None};
+ghost use Rattle.answer.specs.Numbers.{node_number};
 ghost use Rattle.model.specs.Objections.{reason_of, objection_of, at_no_node, placed, refusal};
 
 use answer::refusals::{Place, Reason, Refusal};
@@ -22,6 +23,13 @@ impl Objection {
             place: Some(Place::Instruction(instruction)),
             node: self.node,
         }
+    }
+
+    // The node as a number, 0 for none.
+    pub fn node_number(&self) -> u16
+        ensures { result ≡ node_number self.now.node }
+    {
+        self.node.unwrap_or(0)
     }
 }
 

@@ -30,7 +30,19 @@ pub fn is_known(instructions: &[Instruction], address: Address) -> bool
 pub fn find(instructions: &[Instruction], address: Address) -> Option<usize>
     ensures { rising instructions.now ≡ true → result ≡ found instructions.now address }
 {
-    instructions
-        .binary_search_by(|instruction| instruction.address.cmp(&address))
-        .ok()
+    let mut low = 0;
+    let mut high = instructions.len();
+    while low < high {
+        let middle = low + (high - low) / 2;
+        let here = instructions[middle].address;
+        if here == address {
+            return Some(middle);
+        }
+        if precedes(here, address) {
+            low = middle + 1;
+        } else {
+            high = middle;
+        }
+    }
+    None
 }

@@ -69,13 +69,18 @@ impl Bench {
 }
 
 fn main(rt: HostRuntime) -> io::Result<()> {
-    let input = BufReader::new(rt.alloc(), rt.stdin())?;
+    let mut input = BufReader::new(rt.alloc(), rt.stdin())?;
+    let mut text = Vec::new(rt.alloc());
     let mut bench = Bench {
         regions: Vec::new(rt.alloc()),
         tally: Tally::new(),
     };
-    for (line, text) in (1..).zip(input.split(rt.alloc(), b'\n')) {
-        bench.take_line(&rt, line, text?.as_slice())?;
+    for line in 1..u64::MAX {
+        text.clear();
+        if input.read_until(b'\n', &mut text)? == 0 {
+            break;
+        }
+        bench.take_line(&rt, line, text.as_slice())?;
     }
     println!(rt; "{}", bench.tally)
 }

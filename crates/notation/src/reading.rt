@@ -11,7 +11,7 @@ ghost use Rattle.notation.specs.Words.{operator_word, UnaryWord, OfTwo, OfOne, O
 use answer::faults::Fault;
 use answer::rules::require;
 use operator::ops::*;
-use std::alloc::{AllocError, Global};
+use std::alloc::{AllocError, AllocFailed, Global};
 use std::fmt;
 use value::rows::*;
 use value::values::{ADDRESS_WIDTH, Value};
@@ -71,6 +71,14 @@ impl From<AllocError> for Unread {
     ghost from_gives = { λ _ r. r ≡ NoMemory };
 
     fn from(_: AllocError) -> Unread {
+        Unread::NoMemory
+    }
+}
+
+impl<T: Drop> From<AllocFailed<T>> for Unread {
+    ghost from_gives = { λ _ r. r ≡ NoMemory };
+
+    fn from(_: AllocFailed<T>) -> Unread {
         Unread::NoMemory
     }
 }

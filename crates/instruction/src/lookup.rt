@@ -27,6 +27,7 @@ pub fn is_known(instructions: &[Instruction], address: Address) -> bool
 }
 
 // The index of the instruction at an address, in a table whose addresses rise, by bisection.
+#[tactic(auto, using(crate::proofs::Bisection::found_none, crate::proofs::Bisection::found_at))]
 pub fn find(instructions: &[Instruction], address: Address) -> Option<usize>
     ensures { rising instructions.now ≡ true → result ≡ found instructions.now address }
 {
